@@ -1,4 +1,4 @@
-ghost use Rattle.std.specs.Prelude.{◌≡◌, ◌==◌, [], ◌∷◌, ◌++◌, length, MatchResult, IfOk};
+ghost use Rattle.std.specs.Prelude.{◌≡◌, ◌==◌, ◌<◌, [], ◌∷◌, ◌++◌, length, slice_get, slice_set, remove, Some, MatchResult, IfOk};
 
 use crate::Memory;
 use std::alloc::Global;
@@ -50,6 +50,15 @@ impl<T> List<T> {
         self.items.as_slice()
     }
 
+    /// Takes the value at the index out; those behind it move up.
+    pub fn remove(&mut self, index: usize) -> T
+        requires { index < length self.old }
+        ensures value { slice_get self.old index ≡ Some result }
+        ensures rest { self.new ≡ remove self.old index }
+    {
+        self.items.remove(index)
+    }
+
     /// How many elements there are.
     pub fn len(&self) -> usize
         ensures { result ≡ length self.now }
@@ -72,5 +81,13 @@ impl<T: Drop> List<T> {
     {
         self.items.push(value)?;
         Ok(())
+    }
+
+    /// Puts the value in place of the one at the index.
+    pub fn set(&mut self, index: usize, value: T)
+        requires { index < length self.old }
+        ensures { self.new ≡ slice_set self.old index value }
+    {
+        self.items[index] = value;
     }
 }
