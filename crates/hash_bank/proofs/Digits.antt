@@ -1,8 +1,7 @@
 -- What the decoder of hexadecimal text answers, in the words of the definitions.
-use Rattle.std.proofs.Common.{◌≡◌, ◌≢◌, ℕ, zero, suc, ◌+◌, ◌*◌, ◌/◌, ◌%◌, ◌<◌, ◌≤◌, ◌==◌, Bool, true, false, not, cond, List, [], ◌∷◌, length, Option, Some, None, unwrap_or, is_some, Result, Ok, Err, refl, sym, ap, subst, ◌∙◌, inl, inr, ltb, ◌&&◌, arith}
-use Rattle.std.specs.Prelude.{MatchResult, ⊤}
-use Rattle.std.specs.List.{position, position_from}
-use Rattle.std.proofs.lemmas.Grind.{common_steps}
+use Rattle.std.proofs.Common.{◌≡◌, ◌≢◌, ℕ, ◌+◌, ◌*◌, ◌/◌, ◌%◌, ◌<◌, ◌≤◌, Bool, true, not, cond, List, [], ◌∷◌, length, Option, Some, None, unwrap_or, is_some, Result, Ok, Err, refl, sym, ap, subst, ◌∙◌, inl, inr, ltb, ◌&&◌, arith}
+use Rattle.std.specs.Prelude.{MatchResult}
+use Rattle.std.specs.List.{position_from}
 use Rattle.std.proofs.lemmas.Bool.{and_parts, cases_eq, ltb-true}
 use Rattle.std.proofs.lemmas.List.Quantifiers.{position-Some}
 use Rattle.std.proofs.lemmas.Iterator.Adapters.{position_from-zero}
@@ -12,10 +11,9 @@ use Rattle.std.specs.Str.{IsAscii, IsUtf8}
 use Rattle.hex.proofs.HexLemmas.{IsAscii-encode_with}
 use Rattle.hex.specs.Hex.{encode_lower, lower_digits, decode_pairs, decode_sized, digit_or_error, hex_digit_value, is_hex_digit, ◌>>=◌}
 use Rattle.hex.specs.declared.error.FromHexError.{FromHexError}
-use Rattle.hex.specs.declared.error.FromHexError.TheVariants.{InvalidHexCharacter, OddLength, InvalidStringLength, OutOfMemory}
+use Rattle.hex.specs.declared.error.FromHexError.TheVariants.{InvalidHexCharacter, OddLength, InvalidStringLength}
 use Rattle.hash_bank.specs.Hexadecimal.{bytes_of_digits, bytes_of_hex, bytes_unless_bad, first_bad_digit, hex_error_of, IsPlaceWithin}
-use Rattle.hash_bank.specs.declared.digest.HexError.{HexError}
-use Rattle.hash_bank.specs.declared.digest.HexError.TheVariants.{BadLength, BadHex}
+use Rattle.hash_bank.specs.declared.digest.HexError.TheVariants.{BadLength}
 
 -- what a decoder gives for these bytes, unless the digit at this place is bad
 abbrev Decoded : List ℕ → Option ℕ → Result (List ℕ) FromHexError → Type 0
