@@ -131,6 +131,7 @@ fn each_other_call_once(rt: HostRuntime) -> Result<(), Fail> {
     let mut hasher = Hasher::new(Bank::Sha1);
     hasher.update(b"a");
     hasher.update(b"bc");
+    hasher.update_parts(&[b"", b""]);
     prints(
         &rt,
         &hasher.finish(),
