@@ -8,7 +8,7 @@ use Rattle.nv_index.specs.declared.index.NvPublic.{NvPublic}
 
 -- an index's public area: the handle, the Name's algorithm, the attributes, the policy behind its
 -- size, and the size of the content
-abbrev pub index_string : NvPublic → List ℕ
+unfoldable pub index_string : NvPublic → List ℕ
 index_string public = concat (
     to_be_bytes w32 public.handle
     ∷ (0x00 ∷ 0x0B ∷ [])
