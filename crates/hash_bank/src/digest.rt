@@ -60,7 +60,8 @@ fn room_of(bytes: &[u8]) -> [u8; 64]
 
 // The digest of the bank's length whose bytes are all this one.
 fn filled(bank: Bank, byte: u8) -> Digest
-    ensures { result ≡ replicate (size_in bank) byte }
+    ensures value { result ≡ replicate (size_in bank) byte }
+    ensures size { length result ≡ size_in bank }
 {
     let all = [byte; ROOM];
     Digest::of_bytes(&all[..bank.size()])
@@ -108,14 +109,16 @@ impl Digest {
     /// The digest of zero bytes alone, of the bank's length.
     #[tactic(auto, unfolding(crate::specs::Hash::zeros_in))]
     pub fn zeros(bank: Bank) -> Digest
-        ensures { result ≡ zeros_in bank }
+        ensures value { result ≡ zeros_in bank }
+        ensures size { length result ≡ size_in bank }
     {
         filled(bank, 0)
     }
 
     /// The digest of bytes 0xFF alone, of the bank's length.
     pub fn ones(bank: Bank) -> Digest
-        ensures { result ≡ ones_in bank }
+        ensures value { result ≡ ones_in bank }
+        ensures size { length result ≡ size_in bank }
     {
         filled(bank, 0xFF)
     }
