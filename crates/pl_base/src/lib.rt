@@ -5,16 +5,23 @@
 #![tactic(auto)]
 
 mod entropy;
+mod fail;
 mod files;
 mod list;
+mod list_entropy;
+mod mem_sink;
 mod memory;
 mod name;
+mod schedule;
 mod sink;
 mod small;
 
 pub use entropy::{Entropy, Failed};
+pub use fail::Fail;
 pub use files::{Entry, Files, ListError, ReadError, RemoveError, ReplaceError};
 pub use list::List;
+pub use list_entropy::ListEntropy;
+pub use mem_sink::MemSink;
 pub use memory::Memory;
 pub use name::Name;
 pub use sink::{Sink, SinkError};
