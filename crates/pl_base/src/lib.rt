@@ -6,12 +6,16 @@
 
 mod entropy;
 mod fail;
+mod fault_count;
 mod files;
 mod list;
 mod list_entropy;
 mod mem_sink;
 mod memory;
 mod name;
+mod real_entropy;
+mod real_files;
+mod real_sink;
 mod schedule;
 mod sink;
 mod small;
@@ -24,5 +28,8 @@ pub use list_entropy::ListEntropy;
 pub use mem_sink::MemSink;
 pub use memory::Memory;
 pub use name::Name;
+pub use real_entropy::RealEntropy;
+pub use real_files::RealFiles;
+pub use real_sink::RealSink;
 pub use sink::{Sink, SinkError};
 pub use small::Small;

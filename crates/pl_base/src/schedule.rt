@@ -2,16 +2,17 @@ ghost use Rattle.std.specs.Prelude.{◌≡◌, ◌==◌, ◌+◌, ◌-◌, ◌^�
 ghost use Rattle.pl_base.specs.Calls.{planned};
 ghost use Rattle.pl_base.specs.Faults.{HasCause};
 
+use crate::fault_count::FaultCount;
 use crate::{Fail, List};
 use std::marker::Model;
 
-/// Which calls of an object in memory fail, and the counts of its calls and of its faults. The
-/// counts stay at their greatest value once they reach it.
+/// Which calls of an object in memory fail, and the counts of its calls and of its faults. A
+/// count stays at its greatest value once it reaches it.
 #[derive(Debug, Drop)]
 pub struct Schedule {
     fails: List<Fail>,
     made: u64,
-    faults: u64,
+    faults: FaultCount,
 }
 
 impl Model for Schedule {
@@ -37,7 +38,7 @@ impl Schedule {
         Schedule {
             fails,
             made: 0,
-            faults: 0,
+            faults: FaultCount::new(),
         }
     }
 
@@ -56,6 +57,6 @@ impl Schedule {
         ensures rose { HasCause self.old.faults self.new.faults (Unit {0}) }
         ensures same { self.new ≡ record self.old { faults = min (self.old.faults + 1) (2 ^ 64 - 1) } }
     {
-        self.faults = self.faults.saturating_add(1);
+        self.faults.rise();
     }
 }
