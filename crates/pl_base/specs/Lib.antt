@@ -4,3 +4,6 @@ pub mod Written
 pub mod Draw
 pub mod FileMap
 pub mod FileAnswers
+pub mod Calls
+pub mod MemorySink
+pub mod MemoryWords

@@ -5,17 +5,31 @@
 #![tactic(auto)]
 
 mod entropy;
+mod fail;
+mod fault_count;
 mod files;
 mod list;
+mod list_entropy;
+mod mem_sink;
 mod memory;
 mod name;
+mod real_entropy;
+mod real_files;
+mod real_sink;
+mod schedule;
 mod sink;
 mod small;
 
 pub use entropy::{Entropy, Failed};
+pub use fail::Fail;
 pub use files::{Entry, Files, ListError, ReadError, RemoveError, ReplaceError};
 pub use list::List;
+pub use list_entropy::ListEntropy;
+pub use mem_sink::MemSink;
 pub use memory::Memory;
 pub use name::Name;
+pub use real_entropy::RealEntropy;
+pub use real_files::RealFiles;
+pub use real_sink::RealSink;
 pub use sink::{Sink, SinkError};
 pub use small::Small;

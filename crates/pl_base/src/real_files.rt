@@ -1,0 +1,215 @@
+ghost use Rattle.std.specs.Prelude.{◌≤◌, ℕ, None, Err, IfOk, vec_len};
+ghost use Rattle.pl_base.specs.FileAnswers.{IsBounded, IsShort};
+
+use crate::fault_count::FaultCount;
+use crate::{Entry, Files, List, ListError, Name, ReadError, RemoveError, ReplaceError};
+use std::alloc::Global;
+use std::fs::{DirEntry, OpenFile, OpenOptions, ReadDir};
+use std::io::{ErrorKind, Read, Write};
+use std::os::unix::fs::OpenOptionsExt;
+use std::{fs, io, rt};
+
+/// Who may read and write a file that is made: its owner alone, since a file may hold keys.
+const OWNER_ONLY: u32 = 0o600;
+
+/// The files of the system. It tells nothing of them.
+#[derive(Drop)]
+pub struct RealFiles<R> {
+    files: R,
+    faults: FaultCount,
+}
+
+/// Reads to the end of the file, whatever length the system tells. Past the limit the bytes are
+/// only counted.
+fn read_file<R: rt::Files>(
+    files: &R,
+    alloc: Global,
+    path: &str,
+    limit: u64,
+) -> Result<Vec<u8>, ReadError>
+    ensures { IsBounded limit result }
+{
+    let file = match fs::open(files, path) {
+        Ok(file) => file,
+        Err(error) if error.kind() == ErrorKind::NotFound => return Err(ReadError::Missing),
+        Err(_) => return Err(ReadError::Failed),
+    };
+    let mut front = file.take(limit.saturating_add(1));
+    let mut bytes = Vec::new(alloc);
+    if let Err(error) = front.read_to_end(&mut bytes) {
+        return Err(read_failure(error));
+    }
+    let size = bytes.len() as u64;
+    if size <= limit {
+        return Ok(bytes);
+    }
+    drop(bytes);
+    match io::copy(&mut front.into_inner(), &mut io::sink()) {
+        Ok(more) => Err(ReadError::TooLarge(size.saturating_add(more))),
+        Err(error) => Err(read_failure(error)),
+    }
+}
+
+/// Why an opened file could not be read on.
+fn read_failure(error: io::Error) -> ReadError
+    ensures { (limit : ℕ) → IsBounded limit (Err result) }
+{
+    match error.kind() {
+        ErrorKind::OutOfMemory => ReadError::Memory,
+        _ => ReadError::Failed,
+    }
+}
+
+/// Lists a folder in the order of the names' bytes.
+fn list_folder<R: rt::Files>(
+    files: &R,
+    alloc: Global,
+    path: &str,
+    limit: u32,
+) -> Result<List<Entry>, ListError>
+    ensures { IsShort limit result }
+{
+    let folder = match fs::read_dir(&(files, alloc), path) {
+        Ok(folder) => folder,
+        Err(error) if error.kind() == ErrorKind::NotFound => return Err(ListError::Missing),
+        Err(error) => return Err(list_failure(error)),
+    };
+    let mut entries = entries_of(files, alloc, folder, limit)?;
+    if entries.is_empty() {
+        return Err(ListError::Missing);
+    }
+    entries.sort_unstable_by(|a, b| a.name.text().cmp(b.name.text()));
+    Ok(List::from_vec(entries))
+}
+
+/// The entries of an opened folder, in the order in which the system gives them.
+fn entries_of<R: rt::Files, S: rt::Files + Clone + Drop>(
+    files: &R,
+    alloc: Global,
+    folder: ReadDir<S, Global>,
+    limit: u32,
+) -> Result<Vec<Entry>, ListError>
+    ensures { IfOk result (λ entries. vec_len entries ≤ limit) }
+{
+    let mut entries = Vec::new(alloc);
+    for found in folder {
+        let found = found.map_err(list_failure)?;
+        if entries.len() >= limit as usize {
+            return Err(ListError::TooMany);
+        }
+        let entry = entry_of(files, alloc, &found)?;
+        entries.push(entry).map_err(|_| ListError::Memory)?;
+    }
+    Ok(entries)
+}
+
+/// Why a folder could not be read on.
+fn list_failure(error: io::Error) -> ListError {
+    match error.kind() {
+        ErrorKind::OutOfMemory => ListError::Memory,
+        _ => ListError::Failed,
+    }
+}
+
+/// The entry of a name that was found in a folder. A link counts as what it leads to.
+fn entry_of<R: rt::Files, S: rt::Files>(
+    files: &R,
+    alloc: Global,
+    found: &DirEntry<S, Global>,
+) -> Result<Entry, ListError> {
+    let folder = match fs::metadata(files, found.path()) {
+        Ok(metadata) => metadata.is_dir(),
+        Err(error) if error.kind() == ErrorKind::NotFound => false,
+        Err(_) => return Err(ListError::Failed),
+    };
+    match Name::from_text(alloc, found.file_name()) {
+        Ok(name) => Ok(Entry { name, folder }),
+        Err(_) => Err(ListError::Memory),
+    }
+}
+
+/// Writes a file beside the path, and renames it over the path once the system has stored it.
+fn replace_file<R: rt::Files>(
+    files: &R,
+    alloc: Global,
+    path: &str,
+    bytes: &[u8],
+) -> Result<(), ReplaceError> {
+    let Ok(beside) = format!(in alloc; "{path}.new") else {
+        return Err(ReplaceError::Memory);
+    };
+    let beside = beside.as_str();
+    if write_new(files, path, beside, bytes).is_ok() && fs::rename(files, beside, path).is_ok() {
+        return Ok(());
+    }
+    let _ = fs::remove_file(files, beside);
+    Err(ReplaceError::Failed)
+}
+
+/// Makes the folders that the path lacks, and a new file beside it with these bytes.
+fn write_new<R: rt::Files>(files: &R, path: &str, beside: &str, bytes: &[u8]) -> io::Result<()> {
+    if let Some((folder, _)) = path.rsplit_once('/') {
+        fs::create_dir_all(files, folder)?;
+    }
+    remove_leftover(files, beside)?;
+    let mut file = OpenOptions::new()
+        .write(true)
+        .create_new(true)
+        .mode(OWNER_ONLY)
+        .open(files, beside)?;
+    file.write_all(bytes)?;
+    file.sync_all()
+}
+
+/// Takes out a file that a replacement left that was cut off.
+fn remove_leftover<R: rt::Files>(files: &R, beside: &str) -> io::Result<()> {
+    match fs::remove_file(files, beside) {
+        Err(error) if error.kind() != ErrorKind::NotFound => Err(error),
+        _ => Ok(()),
+    }
+}
+
+/// Takes the file out of its folder.
+fn remove_file<R: rt::Files>(files: &R, path: &str) -> Result<(), RemoveError> {
+    match fs::remove_file(files, path) {
+        Ok(()) => Ok(()),
+        Err(error) if error.kind() == ErrorKind::NotFound => Err(RemoveError::Missing),
+        Err(_) => Err(RemoveError::Failed),
+    }
+}
+
+impl<R: rt::Files> RealFiles<R> {
+    /// The files that the runtime reaches.
+    pub fn new(files: R) -> RealFiles<R> {
+        RealFiles {
+            files,
+            faults: FaultCount::new(),
+        }
+    }
+}
+
+impl<R: rt::Files> Files for RealFiles<R> {
+    ghost held = { λ _. None };
+
+    ghost faults = { λ files. files.faults };
+
+    fn read(&mut self, alloc: Global, path: &str, limit: u64) -> Result<Vec<u8>, ReadError> {
+        let outcome = read_file(&self.files, alloc, path, limit);
+        self.faults.counted(outcome)
+    }
+
+    fn list(&mut self, alloc: Global, path: &str, limit: u32) -> Result<List<Entry>, ListError> {
+        let outcome = list_folder(&self.files, alloc, path, limit);
+        self.faults.counted(outcome)
+    }
+
+    fn replace(&mut self, alloc: Global, path: &str, bytes: &[u8]) -> Result<(), ReplaceError> {
+        let outcome = replace_file(&self.files, alloc, path, bytes);
+        self.faults.counted(outcome)
+    }
+
+    fn remove(&mut self, _alloc: Global, path: &str) -> Result<(), RemoveError> {
+        let outcome = remove_file(&self.files, path);
+        self.faults.counted(outcome)
+    }
+}
