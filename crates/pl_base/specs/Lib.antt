@@ -7,3 +7,5 @@ pub mod FileAnswers
 pub mod Calls
 pub mod MemorySink
 pub mod MemoryWords
+pub mod MemoryFiles
+pub mod Listing

@@ -1,0 +1,3 @@
+pub mod HeldFiles
+pub mod Parts
+pub mod Listed
