@@ -34,5 +34,6 @@ pub use name::Name;
 pub use real_entropy::RealEntropy;
 pub use real_files::RealFiles;
 pub use real_sink::RealSink;
+pub use schedule::Schedule;
 pub use sink::{Sink, SinkError};
 pub use small::Small;
