@@ -1,0 +1,71 @@
+//! The trait of the device.
+ghost use Rattle.std.specs.Prelude.{◌≡◌, ℕ, Bool, true, false, Option, Some, is_ok, Err, IfOk, IfSome};
+ghost use Rattle.pl_base.specs.Faults.{HasCause};
+ghost use Rattle.tpm_model.specs.declared.parts.Parts.{Parts};
+ghost use Rattle.tpm_model.specs.Respond.{is_offered};
+ghost use Rattle.tpm_model.specs.Rules.{HasRules};
+ghost use Rattle.tpm_device.specs.Stored.{Stored, Holds, BeginGives, ExecuteGives, ExecuteStores};
+
+use std::alloc::Global;
+use tpm_model::{Command, Response, StateRule};
+
+/// Why a device isn't ready.
+#[derive(Clone, Copy, Debug, PartialEq, Eq)]
+pub enum BeginError {
+    /// What is stored has this many bytes, more than a state may have.
+    TooLarge(u64),
+    /// What is stored is no state: the offset of the first field that is cut or not allowed.
+    Malformed(u32),
+    /// What is stored breaks this rule of a state.
+    BadRule(StateRule),
+    /// The outside refused, and the count of faults rose.
+    Failed,
+    /// Memory ran out.
+    Memory,
+}
+
+/// Why a command has no answer.
+#[derive(Clone, Copy, Debug, PartialEq, Eq)]
+pub enum ExecError {
+    /// The outside refused, and the count of faults rose. The device isn't ready any more.
+    Failed,
+    /// Memory ran out, and nothing changed.
+    Memory,
+}
+
+/// A TPM that executes commands.
+pub trait Tpm {
+    /// The state that the commands meet, where it is told: from an accepted `begin` until a
+    /// failure.
+    ghost live: { Self → Option Parts };
+
+    /// What is stored, where it is told.
+    ghost stored: { Self → Option Stored };
+
+    /// Whether commands may be executed.
+    ghost ready: { Self → Bool };
+
+    /// How often the device failed.
+    ghost faults: { Self → ℕ };
+
+    /// Makes the device ready with the state that is stored. After a refusal it isn't ready.
+    fn begin(&mut self, alloc: Global) -> Result<(), BeginError>
+        ensures cause { HasCause (faults self.old) (faults self.new) (result ≡ Err BeginError.Failed) }
+        ensures readiness { ready self.new ≡ is_ok result }
+        ensures told { (kept : Stored) → stored self.old ≡ Some kept → BeginGives kept result (live self.new) }
+        ensures same { stored self.new ≡ stored self.old };
+
+    /// Whether commands may be executed.
+    fn is_ready(&self) -> bool
+        ensures { result ≡ ready self.now };
+
+    /// Executes a command on the live state. After a failure the device isn't ready, and what is
+    /// stored is the state before or the next one.
+    fn execute(&mut self, alloc: Global, command: &Command) -> Result<Response, ExecError>
+        requires readiness { ready self.old ≡ true }
+        requires offered { is_offered command.now ≡ true }
+        ensures cause { HasCause (faults self.old) (faults self.new) (result ≡ Err ExecError.Failed) }
+        ensures told { (s : Parts) → live self.old ≡ Some s → ExecuteGives command.now s result (ready self.new) (live self.new) }
+        ensures rules { (s : Parts) → live self.old ≡ Some s → HasRules s → IfSome (live self.new) HasRules }
+        ensures stored { (s : Parts) → live self.old ≡ Some s → stored self.old ≡ Some (Holds s) → ExecuteStores command.now s result (stored self.new) };
+}

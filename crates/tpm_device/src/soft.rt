@@ -1,0 +1,116 @@
+//! A TPM in memory.
+ghost use Rattle.std.specs.Prelude.{◌≡◌, ℕ, Bool, true, false, ◌≢◌, Option, Some, is_ok, IsOk, Err, IfSome};
+ghost use Rattle.pl_base.specs.Calls.{FollowsPlan};
+ghost use Rattle.pl_base.specs.Faults.{HasCause};
+ghost use Rattle.tpm_model.specs.declared.parts.Parts.{Parts};
+ghost use Rattle.tpm_model.specs.Respond.{is_offered};
+ghost use Rattle.tpm_model.specs.Rules.{HasRules};
+ghost use Rattle.tpm_device.specs.Stored.{Stored, Holds, BeginGives, ExecuteGives, ExecuteStores};
+
+use crate::{BeginError, ExecError, Tpm};
+use pl_base::{Fail, List, Schedule};
+use std::alloc::Global;
+use std::marker::Model;
+use tpm_model::{Command, Response, State, step};
+
+/// A TPM whose state is kept in memory: what is stored is always the live state. Its calls of
+/// `begin` and `execute` are counted together, from 0; those of the given numbers fail, after they
+/// took effect where `done` holds.
+#[derive(Debug, Drop)]
+pub struct SoftTpm {
+    state: State,
+    schedule: Schedule,
+    ready: bool,
+}
+
+impl Model for SoftTpm {
+    ghost use Rattle.tpm_device.specs.SoftDevice.{SoftDevice};
+
+    ghost Value = { SoftDevice };
+
+    ghost view = { λ a. record { state = a.state; calls = a.schedule; ready = a.ready } };
+}
+
+impl SoftTpm {
+    /// A TPM with this state, which isn't ready yet, and fails at these calls.
+    pub fn new(state: State, fails: List<Fail>) -> SoftTpm
+        ensures { result ≡ record { state = state; calls = record { fails = fails; made = 0; faults = 0 }; ready = false } }
+    {
+        SoftTpm {
+            state,
+            schedule: Schedule::new(fails),
+            ready: false,
+        }
+    }
+
+    /// One step of the state.
+    fn step(&mut self, alloc: Global, command: &Command) -> Result<Response, ExecError>
+        requires offered { is_offered command.now ≡ true }
+        requires readiness { self.old.ready ≡ true }
+        ensures told { ExecuteGives command.now self.old.state result self.old.ready (Some self.new.state) }
+        ensures memory { result ≢ Err ExecError.Failed }
+        ensures same { (self.new.calls ≡ self.old.calls) × (self.new.ready ≡ self.old.ready) }
+        ensures rules { HasRules self.new.state }
+    {
+        let Ok(response) = step(alloc, &mut self.state, command) else {
+            return Err(ExecError::Memory);
+        };
+        Ok(response)
+    }
+}
+
+impl Tpm for SoftTpm {
+    ghost live = { λ tpm. Some tpm.state };
+
+    ghost stored = { λ tpm. Some (Holds tpm.state) };
+
+    ghost ready = { λ tpm. tpm.ready };
+
+    ghost faults = { λ tpm. tpm.calls.faults };
+
+    fn begin(&mut self, _alloc: Global) -> Result<(), BeginError>
+        ensures cause { HasCause self.old.calls.faults self.new.calls.faults (result ≡ Err BeginError.Failed) }
+        ensures readiness { self.new.ready ≡ is_ok result }
+        ensures told { (kept : Stored) → Some (Holds self.old.state) ≡ Some kept → BeginGives kept result (Some self.new.state) }
+        ensures same { Some (Holds self.new.state) ≡ Some (Holds self.old.state) }
+        ensures plan { FollowsPlan self.old.calls self.new.calls (result ≡ Err BeginError.Failed) (IsOk result) }
+    {
+        match self.schedule.next_call() {
+            None => {
+                self.ready = true;
+                Ok(())
+            }
+            Some(_) => {
+                self.schedule.fault();
+                self.ready = false;
+                Err(BeginError::Failed)
+            }
+        }
+    }
+
+    fn is_ready(&self) -> bool {
+        self.ready
+    }
+
+    fn execute(&mut self, alloc: Global, command: &Command) -> Result<Response, ExecError>
+        requires readiness { self.old.ready ≡ true }
+        requires offered { is_offered command.now ≡ true }
+        ensures cause { HasCause self.old.calls.faults self.new.calls.faults (result ≡ Err ExecError.Failed) }
+        ensures told { (s : Parts) → Some self.old.state ≡ Some s → ExecuteGives command.now s result self.new.ready (Some self.new.state) }
+        ensures rules { (s : Parts) → Some self.old.state ≡ Some s → HasRules s → IfSome (Some self.new.state) HasRules }
+        ensures stored { (s : Parts) → Some self.old.state ≡ Some s → Some (Holds self.old.state) ≡ Some (Holds s) → ExecuteStores command.now s result (Some (Holds self.new.state)) }
+        ensures plan { FollowsPlan self.old.calls self.new.calls (result ≡ Err ExecError.Failed) (IsOk result) }
+    {
+        match self.schedule.next_call() {
+            None => self.step(alloc, command),
+            Some(fail) => {
+                if fail.done && self.step(alloc, command).is_err() {
+                    return Err(ExecError::Memory);
+                }
+                self.schedule.fault();
+                self.ready = false;
+                Err(ExecError::Failed)
+            }
+        }
+    }
+}

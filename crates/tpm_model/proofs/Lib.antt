@@ -1,0 +1,5 @@
+pub mod PcrPlaces
+pub mod Handles
+pub mod Places
+pub mod KeepsRules
+pub mod Starts

@@ -1,0 +1,9 @@
+pub mod Pcrs
+pub mod Sessions
+pub mod Rules
+pub mod Refusing
+pub mod PcrCommands
+pub mod SessionCommands
+pub mod ObjectCommands
+pub mod Respond
+pub mod Fresh

@@ -1,0 +1,99 @@
+-- What the commands on policy sessions answer and leave.
+use Rattle.std.specs.Prelude.{ℕ, ◌+◌, ◌^◌, nat_lt, nat_le, ◌==◌, Bool, true, false, not, ◌||◌, if◌then◌else◌, List, [], ◌∷◌, ◌++◌, length, remove, slice_set, Option, None, Some}
+use Rattle.hash_bank.specs.declared.bank.Bank.{Bank}
+use Rattle.hash_bank.specs.Banks.{has_bank}
+use Rattle.policy_digest.specs.Policies.{values_digest_of, policy_pcr_of}
+use Rattle.tpm_model.specs.declared.response.Response.{Response}
+use Rattle.tpm_model.specs.declared.response.Response.TheVariants as answer
+use Rattle.tpm_model.specs.declared.response.Refusal.TheVariants as refusal
+use Rattle.tpm_model.specs.declared.trail.TrailEntry.{TrailEntry}
+use Rattle.tpm_model.specs.declared.trail.TrailEntry.TheVariants as entry
+use Rattle.tpm_model.specs.declared.sessions.Session.{Session}
+use Rattle.tpm_model.specs.declared.parts.Parts.{Parts}
+use Rattle.tpm_model.specs.Pcrs.{values_of, chosen}
+use Rattle.tpm_model.specs.Sessions.{is_session_hash, fresh_session, session_place, session_at}
+use Rattle.tpm_model.specs.Refusing.{refused}
+
+-- the handle of the session with this number
+abbrev pub session_handle : ℕ → ℕ
+session_handle number = 0x03000000 + number
+
+-- a new session of the hash (TPM 2.0 Library Part 3, TPM2_StartAuthSession)
+abbrev pub start_session : Bank → Parts → Response × Parts
+start_session hash s =
+    if not (is_session_hash hash) then refused refusal.Value s
+    else if nat_le 64 (length s.sessions) then refused refusal.SessionsFull s
+    else if nat_le 0x01000000 s.next_session then refused refusal.HandlesEnd s
+    else (
+      answer.Session (session_handle s.next_session),
+      record s {
+        next_session = s.next_session + 1;
+        sessions = s.sessions ++ fresh_session hash (session_handle s.next_session) ∷ [];
+      },
+    )
+
+-- the counter that was noted, where it isn't this one
+abbrev pub noted_before : Option ℕ → ℕ → Option ℕ
+noted_before None now = None
+noted_before (Some noted) now = if noted == now then None else Some noted
+
+-- the session with another digest and one more entry, and with this counter noted
+abbrev pub with_pcrs : List ℕ → ℕ → TrailEntry → Session → Session
+with_pcrs digest now entry session =
+    record session { digest = digest; noted = Some now; trail = session.trail ++ entry ∷ [] }
+
+-- the sessions with this one in place of the one of the handle
+abbrev pub with_session : ℕ → Session → List Session → List Session
+with_session handle session sessions = slice_set sessions (session_place handle sessions) session
+
+-- the digest of the mask's present values, under the hash
+abbrev pub present_digest : Bank → Bank → ℕ → Parts → List ℕ
+present_digest hash bank pcrs s = values_digest_of hash (chosen pcrs (values_of s.banks s.pcrs bank))
+
+-- PolicyPCR on a session whose noted counter is the present one or none
+abbrev pub policy_pcr_now : ℕ → Session → Bank → ℕ → Parts → Response × Parts
+policy_pcr_now handle session bank pcrs s =
+    if nat_le 128 (length session.trail) then refused refusal.TrailFull s
+    else let values = present_digest session.hash bank pcrs s in (
+      answer.Done,
+      record s {
+        sessions = with_session handle (with_pcrs
+            (policy_pcr_of session.hash session.digest bank pcrs values) s.update_counter (entry.Pcr bank pcrs values) session) s.sessions;
+      },
+    )
+
+-- PolicyPCR where the session noted that other counter, or none
+abbrev pub policy_pcr_noted : Option ℕ → ℕ → Session → Bank → ℕ → Parts → Response × Parts
+policy_pcr_noted (Some noted) handle session bank pcrs s = refused (refusal.PcrChanged noted s.update_counter) s
+policy_pcr_noted None handle session bank pcrs s = policy_pcr_now handle session bank pcrs s
+
+-- PolicyPCR on the session that was found
+abbrev pub policy_pcr_on : Option Session → ℕ → Bank → ℕ → Parts → Response × Parts
+policy_pcr_on None handle bank pcrs s = refused (refusal.Handle handle) s
+policy_pcr_on (Some session) handle bank pcrs s =
+    if nat_le (2 ^ 24) pcrs then refused refusal.Value s
+    else if not (has_bank s.banks bank) then refused (refusal.BankAbsent bank) s
+    else policy_pcr_noted (noted_before session.noted s.update_counter) handle session bank pcrs s
+
+-- binds a session to the present values of the mask's PCRs (TPM 2.0 Library Part 3, TPM2_PolicyPCR)
+abbrev pub policy_pcr : ℕ → Bank → ℕ → Parts → Response × Parts
+policy_pcr handle bank pcrs s = policy_pcr_on (session_at handle s.sessions) handle bank pcrs s
+
+-- the digest of the session that was found
+abbrev pub digest_on : Option Session → ℕ → Parts → Response × Parts
+digest_on None handle s = refused (refusal.Handle handle) s
+digest_on (Some session) handle s = (answer.PolicyDigest session.digest, s)
+
+-- the digest of a session (TPM 2.0 Library Part 3, TPM2_PolicyGetDigest)
+abbrev pub policy_get_digest : ℕ → Parts → Response × Parts
+policy_get_digest handle s = digest_on (session_at handle s.sessions) handle s
+
+-- the end of the session that was found
+abbrev pub flush_on : Option Session → ℕ → Parts → Response × Parts
+flush_on None handle s = refused (refusal.Handle handle) s
+flush_on (Some session) handle s =
+    (answer.Done, record s { sessions = remove s.sessions (session_place handle s.sessions) })
+
+-- ends a session (TPM 2.0 Library Part 3, TPM2_FlushContext)
+abbrev pub flush_session : ℕ → Parts → Response × Parts
+flush_session handle s = flush_on (session_at handle s.sessions) handle s

@@ -1,0 +1,97 @@
+//! Sealed objects, and the commands on them.
+ghost use Rattle.std.specs.Prelude.{◌≡◌, ◌+◌, ◌<◌, ◌≤◌, ◌==◌, [], ◌∷◌, ◌++◌, length, option_copied, IfOk, OnErr};
+ghost use Rattle.tpm_model.specs.Sessions.{object_at};
+ghost use Rattle.tpm_model.specs.ObjectCommands.{is_policy_size as has_policy_size, seal, unseal};
+
+use crate::sessions::{find_session, noted_before};
+use crate::{Parts, Refusal, Response};
+use hash_bank::Digest;
+use pl_base::{Memory, Small};
+use std::alloc::Global;
+
+/// A secret sealed to a policy (TPM 2.0 Library Part 1, "Sealed Data").
+#[derive(Clone, Copy, Debug)]
+pub struct Object {
+    /// Its handle, from 0x81000000 on.
+    pub handle: u32,
+    /// The digest that a session must have: 32 or 48 bytes.
+    pub policy: Digest,
+    /// The sealed bytes, 1 to 128.
+    pub secret: Small,
+}
+
+/// The most sealed objects.
+const OBJECTS: usize = 64;
+
+/// The handle of the object with number 0.
+const FIRST_OBJECT: u32 = 0x8100_0000;
+
+/// The number that no object has any more.
+const OBJECT_NUMBERS: u32 = 0x0080_0000;
+
+/// The object of the handle.
+fn find_object(objects: &[Object], handle: u32) -> Option<&Object>
+    ensures { option_copied result ≡ object_at handle objects.now }
+{
+    objects.iter().find(|object| object.handle == handle)
+}
+
+/// Whether a digest has the size that a session's may have.
+fn is_policy_size(size: usize) -> bool
+    ensures { result ≡ has_policy_size size }
+{
+    size == 32 || size == 48
+}
+
+/// Seal.
+pub(crate) fn sealed(parts: &mut Parts, policy: &Digest, secret: &Small) -> Result<Response, Memory>
+    ensures ok { IfOk result (λ answer. (answer, parts.new) ≡ seal policy.now secret.now parts.old) }
+    ensures err { OnErr result (parts.new ≡ parts.old) }
+    ensures bound { length secret.now ≤ 128 }
+{
+    if secret.as_slice().is_empty() {
+        return Ok(Response::Refused(Refusal::SealSize));
+    }
+    if !is_policy_size(policy.as_slice().len()) {
+        return Ok(Response::Refused(Refusal::Value));
+    }
+    if parts.objects.len() >= OBJECTS {
+        return Ok(Response::Refused(Refusal::ObjectsFull));
+    }
+    if parts.next_object >= OBJECT_NUMBERS {
+        return Ok(Response::Refused(Refusal::HandlesEnd));
+    }
+    let handle = FIRST_OBJECT + parts.next_object;
+    let object = Object {
+        handle,
+        policy: *policy,
+        secret: *secret,
+    };
+    parts.objects.push(object)?;
+    parts.next_object += 1;
+    Ok(Response::Object(handle))
+}
+
+/// Unseal.
+pub(crate) fn unsealed(parts: &Parts, number: u32, handle: u32) -> Response
+    ensures { (result, parts.now) ≡ unseal number handle parts.now }
+{
+    let Some(session) = find_session(parts.sessions.as_slice(), number) else {
+        return Response::Refused(Refusal::Handle(number));
+    };
+    let Some(object) = find_object(parts.objects.as_slice(), handle) else {
+        return Response::Refused(Refusal::Handle(handle));
+    };
+    let now = parts.update_counter;
+    if let Some(noted) = noted_before(session.noted, now) {
+        return Response::Refused(Refusal::PcrChanged { noted, now });
+    }
+    if session.digest.as_slice() == object.policy.as_slice() {
+        Response::Secret(object.secret)
+    } else {
+        Response::Refused(Refusal::PolicyFail {
+            session: session.digest,
+            object: object.policy,
+        })
+    }
+}

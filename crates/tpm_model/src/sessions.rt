@@ -1,0 +1,195 @@
+//! Policy sessions, and the commands on them.
+ghost use Rattle.std.specs.Prelude.{◌≡◌, ◌+◌, ◌<◌, ◌≤◌, ◌==◌, true, [], ◌∷◌, ◌++◌, length, slice_get, slice_set, Some, IsSomeAnd, option_copied, position, IfOk, OnErr};
+ghost use Rattle.std.specs.Option.{ForSome};
+ghost use Rattle.tpm_model.specs.Pcrs.{HasValues};
+ghost use Rattle.tpm_model.specs.Sessions.{is_session, is_session_hash as allowed, session_place as place_of_session, session_at};
+ghost use Rattle.tpm_model.specs.SessionCommands.{start_session, noted_before as noted_before_of, with_pcrs, policy_pcr, policy_get_digest, flush_session};
+ghost use Rattle.tpm_model.specs.Rules.{HasRules};
+ghost use Rattle.tpm_model.specs.declared.sessions.Session.{Session as SessionValue};
+
+use crate::pcrs::present_values_digest;
+use crate::{Parts, Refusal, Response, Trail, TrailEntry};
+use hash_bank::{Bank, Digest};
+use pl_base::{List, Memory};
+use policy_digest::policy_pcr_in;
+use std::alloc::Global;
+use std::mem;
+
+/// An open policy session (TPM 2.0 Library Part 1, "Policy Sessions").
+#[derive(Debug, Drop)]
+pub struct Session {
+    /// Its hash, SHA-256 or SHA-384.
+    pub hash: Bank,
+    /// Its handle, from 0x03000000 on.
+    pub handle: u32,
+    /// Its policy digest, of the hash's size.
+    pub digest: Digest,
+    /// The PCR update counter when it last looked at PCRs.
+    pub noted: Option<u32>,
+    /// What it went through.
+    pub trail: Trail,
+}
+
+/// The most open sessions.
+const OPEN_SESSIONS: usize = 64;
+
+/// The handle of the session with number 0.
+const FIRST_SESSION: u32 = 0x0300_0000;
+
+/// The number that no session has any more.
+const SESSION_NUMBERS: u32 = 0x0100_0000;
+
+/// The masks are below this number.
+const MASKS: u32 = 1 << 24;
+
+/// The most entries of a trail.
+const TRAIL_ENTRIES: usize = 128;
+
+/// Whether a session may have the hash.
+pub(crate) fn is_session_hash(hash: Bank) -> bool
+    ensures { result ≡ allowed hash }
+{
+    match hash {
+        Bank::Sha256 | Bank::Sha384 => true,
+        Bank::Sha1 | Bank::Sha512 => false,
+    }
+}
+
+/// The place of the session of the handle.
+fn session_position(sessions: &[Session], handle: u32) -> Option<usize>
+    ensures { result ≡ position (is_session handle) sessions.now }
+{
+    sessions.iter().position(|session| session.handle == handle)
+}
+
+/// The place of the session of the handle, or the number of sessions where there is none.
+#[tactic(auto, using(crate::proofs::Places::place_or_len))]
+fn session_place(sessions: &[Session], handle: u32) -> usize
+    ensures { result ≡ place_of_session handle sessions.now }
+{
+    session_position(sessions, handle).unwrap_or(sessions.len())
+}
+
+/// The session of the handle.
+pub(crate) fn find_session(sessions: &[Session], handle: u32) -> Option<&Session>
+    ensures { option_copied result ≡ session_at handle sessions.now }
+{
+    sessions.get(session_place(sessions, handle))
+}
+
+/// StartSession. It reserves the session's whole trail.
+pub(crate) fn session_started(
+    alloc: Global,
+    parts: &mut Parts,
+    hash: Bank,
+) -> Result<Response, Memory>
+    ensures ok { IfOk result (λ answer. (answer, parts.new) ≡ start_session hash parts.old) }
+    ensures err { OnErr result (parts.new ≡ parts.old) }
+{
+    if !is_session_hash(hash) {
+        return Ok(Response::Refused(Refusal::Value));
+    }
+    if parts.sessions.len() >= OPEN_SESSIONS {
+        return Ok(Response::Refused(Refusal::SessionsFull));
+    }
+    if parts.next_session >= SESSION_NUMBERS {
+        return Ok(Response::Refused(Refusal::HandlesEnd));
+    }
+    let handle = FIRST_SESSION + parts.next_session;
+    let session = Session {
+        hash,
+        handle,
+        digest: Digest::zeros(hash),
+        noted: None,
+        trail: Trail::new(alloc)?,
+    };
+    parts.sessions.push(session)?;
+    parts.next_session += 1;
+    Ok(Response::Session(handle))
+}
+
+/// The counter that was noted, where it isn't this one.
+pub(crate) fn noted_before(noted: Option<u32>, now: u32) -> Option<u32>
+    ensures { result ≡ noted_before_of noted now }
+{
+    noted.filter(|noted| *noted != now)
+}
+
+/// Puts an entry at the end of the session's trail, with the digest that it gives, and notes the
+/// counter. It takes no memory.
+fn note(
+    alloc: Global,
+    sessions: &mut List<Session>,
+    place: usize,
+    digest: &Digest,
+    now: u32,
+    entry: &TrailEntry,
+)
+    requires { IsSomeAnd (slice_get sessions.old place) (λ session. length session.trail < 128) }
+    ensures { (session : SessionValue) → slice_get sessions.old place ≡ Some session
+        → sessions.new ≡ slice_set sessions.old place (with_pcrs digest.now now entry.now session) }
+{
+    let mut open = mem::replace(sessions, List::new(alloc)).into_vec();
+    let session = &mut open[place];
+    session.digest = *digest;
+    session.noted = Some(now);
+    session.trail.push(*entry);
+    *sessions = List::from_vec(open);
+}
+
+/// PolicyPcr.
+pub(crate) fn pcrs_bound(
+    alloc: Global,
+    parts: &mut Parts,
+    handle: u32,
+    bank: Bank,
+    pcrs: u32,
+) -> Response
+    requires { HasRules parts.old }
+    ensures { (result, parts.new) ≡ policy_pcr handle bank pcrs parts.old }
+{
+    let place = session_place(parts.sessions.as_slice(), handle);
+    let Some(session) = parts.sessions.as_slice().get(place) else {
+        return Response::Refused(Refusal::Handle(handle));
+    };
+    if pcrs >= MASKS {
+        return Response::Refused(Refusal::Value);
+    }
+    if !parts.banks.has(bank) {
+        return Response::Refused(Refusal::BankAbsent(bank));
+    }
+    let now = parts.update_counter;
+    if let Some(noted) = noted_before(session.noted, now) {
+        return Response::Refused(Refusal::PcrChanged { noted, now });
+    }
+    if session.trail.as_slice().len() >= TRAIL_ENTRIES {
+        return Response::Refused(Refusal::TrailFull);
+    }
+    let values = present_values_digest(parts, session.hash, bank, pcrs);
+    let digest = policy_pcr_in(session.hash, &session.digest, bank, pcrs, &values);
+    let entry = TrailEntry::Pcr { bank, pcrs, values };
+    note(alloc, &mut parts.sessions, place, &digest, now, &entry);
+    Response::Done
+}
+
+/// PolicyGetDigest.
+pub(crate) fn digest_answer(parts: &Parts, handle: u32) -> Response
+    ensures { (result, parts.now) ≡ policy_get_digest handle parts.now }
+{
+    match find_session(parts.sessions.as_slice(), handle) {
+        Some(session) => Response::PolicyDigest(session.digest),
+        None => Response::Refused(Refusal::Handle(handle)),
+    }
+}
+
+/// FlushSession.
+pub(crate) fn session_flushed(parts: &mut Parts, handle: u32) -> Response
+    ensures { (result, parts.new) ≡ flush_session handle parts.old }
+{
+    let place = session_place(parts.sessions.as_slice(), handle);
+    if place >= parts.sessions.len() {
+        return Response::Refused(Refusal::Handle(handle));
+    }
+    let _ended = parts.sessions.remove(place);
+    Response::Done
+}
