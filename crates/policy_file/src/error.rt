@@ -1,0 +1,29 @@
+//! Why a file is refused.
+
+/// What is wrong with a field of a file.
+#[derive(Clone, Copy, Debug, PartialEq, Eq)]
+pub enum FileKind {
+    /// The file ends before the field does.
+    Cut,
+    /// The first eight bytes are not those of this kind of file and version.
+    Magic,
+    /// The field is whole and has no allowed value.
+    Value,
+    /// Every field was read and bytes follow the last.
+    Trailing,
+}
+
+/// Why a file could not be read.
+#[derive(Clone, Copy, Debug, PartialEq, Eq)]
+pub enum FileError {
+    /// The bytes are the text of no value.
+    Malformed {
+        /// Where the first field that is at fault begins, counted in bytes from 0; of `Trailing`
+        /// where the last field ends.
+        place: u32,
+        /// What is wrong there.
+        kind: FileKind,
+    },
+    /// There was no memory for the value. A token is read without memory.
+    Memory,
+}

@@ -1,0 +1,84 @@
+//! Writing a token file.
+
+ghost use Rattle.std.specs.Prelude.{◌≡◌, ◌++◌, ◌≤◌, IfOk, OnOk, Ok};
+ghost use Rattle.std.specs.Int.{w16, w32, to_be_bytes};
+ghost use Rattle.policy_file.specs.TokenText.{IsToken, NamesLiteral, IsLiteral, literal_kind, literal_text, token_text};
+ghost use Rattle.policy_file.specs.TokenReading.{token_in};
+
+use crate::token::{Literal, Token};
+use crate::token_reading::TOKEN_MAGIC;
+use byteorder::{BigEndian, ByteOrder};
+use hash_bank::Bank;
+use pl_base::Memory;
+use std::alloc::Global;
+
+fn put_16(out: &mut Vec<u8>, number: u16) -> Result<(), Memory>
+    ensures { OnOk result (out.new.items ≡ out.old.items ++ to_be_bytes w16 number) }
+{
+    let mut digits = [0; 2];
+    BigEndian::write_u16(&mut digits, number);
+    out.extend_from_slice(&digits)?;
+    Ok(())
+}
+
+fn put_32(out: &mut Vec<u8>, number: u32) -> Result<(), Memory>
+    ensures { OnOk result (out.new.items ≡ out.old.items ++ to_be_bytes w32 number) }
+{
+    let mut digits = [0; 4];
+    BigEndian::write_u32(&mut digits, number);
+    out.extend_from_slice(&digits)?;
+    Ok(())
+}
+
+fn kind_of(literal: &Literal) -> u8
+    requires { IsLiteral literal.now }
+    ensures { result ≡ literal_kind literal.now.hash }
+{
+    match literal.hash {
+        Bank::Sha256 => 1,
+        Bank::Sha384 => 2,
+        Bank::Sha1 => unreachable!(),
+        Bank::Sha512 => unreachable!(),
+    }
+}
+
+fn put_literal(out: &mut Vec<u8>, literal: &Literal) -> Result<(), Memory>
+    ensures { OnOk result (out.new.items ≡ out.old.items ++ literal_text literal.now) }
+{
+    put_16(out, literal.bank.algorithm())?;
+    out.push(literal.pcr)?;
+    out.extend_from_slice(literal.value.as_slice())?;
+    Ok(())
+}
+
+fn put_token(alloc: Global, token: &Token) -> Result<Vec<u8>, Memory>
+    requires valid { IsToken token.now }
+    requires literal { NamesLiteral token.now }
+    ensures { IfOk result (λ bytes. bytes.items ≡ token_text token.now) }
+{
+    match token {
+        Token::Bound { .. } => unreachable!(),
+        Token::Literal { object, literal } => {
+            let mut out = Vec::with_capacity(alloc, 16 + literal.bank.size())?;
+            out.extend_from_slice(&TOKEN_MAGIC)?;
+            put_32(&mut out, *object)?;
+            out.push(kind_of(literal))?;
+            put_literal(&mut out, literal)?;
+            Ok(out)
+        }
+    }
+}
+
+/// The one text of a token, as [`crate::read_token`] reads it.
+///
+/// The object's handle is from 0x81000000 to 0x817fffff; the literal's hash is SHA-256 or SHA-384,
+/// its PCR at most 23, its value of the bank's size. For now the token has to be a literal one: a
+/// bound token has no text yet.
+pub fn write_token(alloc: Global, token: &Token) -> Result<Vec<u8>, Memory>
+    requires valid { IsToken token.now }
+    requires literal { NamesLiteral token.now }
+    ensures spelled { IfOk result (λ bytes. bytes.items ≡ token_text token.now) }
+    ensures read_back { IfOk result (λ bytes. token_in bytes.items ≡ Ok token.now) }
+{
+    put_token(alloc, token)
+}
