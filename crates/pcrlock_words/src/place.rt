@@ -1,0 +1,16 @@
+use pl_base::Name;
+
+/// Where a file, a folder or a state breaks its rules.
+#[derive(Debug, Drop)]
+pub enum Place {
+    /// At a byte, a line or a record, counted from 0 or 1 as the format of the file says.
+    At(u64),
+    /// The whole is no JSON text.
+    Json,
+    /// The JSON text has no list of records at its top.
+    Records,
+    /// The name of a file or folder has a form that isn't allowed.
+    BadName,
+    /// A rule on the whole is broken, the one of this name, which is in lower case.
+    Rule(Name),
+}
