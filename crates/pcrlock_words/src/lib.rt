@@ -8,10 +8,14 @@
 
 mod answer;
 mod error;
+mod lines;
 mod place;
 mod request;
+mod texts;
 
 pub use answer::Answer;
 pub use error::WordsError;
+pub use lines::split_line;
 pub use place::Place;
 pub use request::Request;
+pub use texts::{answer_line, enrolled_line, key_line, status_line};
