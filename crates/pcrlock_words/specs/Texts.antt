@@ -1,0 +1,63 @@
+-- The lines that are printed for each answer and each command. Numbers are decimal, digests and handles
+-- hexadecimal in lower case.
+use Rattle.std.specs.Prelude.{ℕ, Bool, true, false, List, [], ◌∷◌, ◌++◌, codes}
+use Rattle.std.specs.Fmt.{decimal}
+use Rattle.std.specs.Int.{to_be_bytes, w32}
+use Rattle.hex.specs.Hex.{encode_lower}
+use Rattle.hash_bank.specs.Hash.{name_in}
+use Rattle.pcrlock_words.specs.declared.place.Place.{Place}
+use Rattle.pcrlock_words.specs.declared.place.Place.TheVariants.{At, Json, Records, BadName, Rule}
+use Rattle.pcrlock_words.specs.declared.answer.Answer.{Answer}
+use Rattle.pcrlock_words.specs.declared.answer.Answer.TheVariants.{NotLiteral, BadWords, Malformed, NoSuchFile, Limit, CounterEnd, ReadFault, WriteFault, EntropyFault, TpmFault, Memory, NoToken, NoObject, WrongBinding, SessionsFull, BankAbsent}
+
+-- the line feed at the end of each line
+abbrev pub line_end : List ℕ
+line_end = 10 ∷ []
+
+-- a handle as eight digits
+abbrev pub handle_text : ℕ → List ℕ
+handle_text handle = encode_lower (to_be_bytes w32 handle)
+
+-- the handle of the sealed object
+abbrev pub enrolled_text : ℕ → List ℕ
+enrolled_text handle = codes "enrolled " ++ handle_text handle ++ line_end
+
+-- the key that was opened
+abbrev pub key_text : List ℕ → List ℕ
+key_text key = codes "key " ++ encode_lower key ++ line_end
+
+-- the status of a script's line
+abbrev pub status_text : ℕ → List ℕ
+status_text status = codes "= " ++ decimal status ++ line_end
+
+-- where something is malformed
+abbrev pub place_text : Place → List ℕ
+place_text (At place) = decimal place
+place_text Json = codes "json"
+place_text Records = codes "records"
+place_text BadName = codes "name"
+place_text (Rule name) = codes "rule " ++ name
+
+-- which counter is at its end
+abbrev pub counter_text : Bool → List ℕ
+counter_text true = codes "writes"
+counter_text false = codes "update"
+
+-- the line of an answer on standard error
+abbrev pub answer_text : Answer → List ℕ
+answer_text (NotLiteral pcr now sealed) = codes "not literal: pcr " ++ decimal pcr ++ codes " holds " ++ encode_lower now ++ codes ", sealed to " ++ encode_lower sealed ++ line_end
+answer_text BadWords = codes "bad words" ++ line_end
+answer_text (Malformed path place) = codes "malformed: " ++ path ++ codes ": " ++ place_text place ++ line_end
+answer_text (NoSuchFile path) = codes "no such file: " ++ path ++ line_end
+answer_text (Limit kind number) = codes "limit: " ++ kind ++ codes " " ++ decimal number ++ line_end
+answer_text (CounterEnd writes) = codes "counter at its end: " ++ counter_text writes ++ line_end
+answer_text ReadFault = codes "read fault" ++ line_end
+answer_text WriteFault = codes "write fault" ++ line_end
+answer_text EntropyFault = codes "entropy fault" ++ line_end
+answer_text TpmFault = codes "tpm fault" ++ line_end
+answer_text Memory = codes "no memory" ++ line_end
+answer_text (NoToken path) = codes "no token: " ++ path ++ line_end
+answer_text (NoObject handle) = codes "no object: " ++ handle_text handle ++ line_end
+answer_text (WrongBinding session object) = codes "wrong binding: session " ++ encode_lower session ++ codes ", object " ++ encode_lower object ++ line_end
+answer_text SessionsFull = codes "sessions full: 64" ++ line_end
+answer_text (BankAbsent bank) = codes "bank absent: " ++ name_in bank ++ line_end

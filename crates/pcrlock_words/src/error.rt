@@ -1,0 +1,21 @@
+ghost use Rattle.std.specs.Prelude.{◌≡◌};
+ghost use Rattle.pcrlock_words.specs.declared.error.WordsError.TheVariants.{Memory as OutOfMemory};
+
+use pl_base::Memory;
+
+/// Why words gave no request.
+#[derive(Clone, Copy, Debug, PartialEq, Eq)]
+pub enum WordsError {
+    /// The words are outside the set of command lines.
+    BadWords,
+    /// Memory ran out.
+    Memory,
+}
+
+impl From<Memory> for WordsError {
+    ghost from_gives = { λ _ error. error ≡ OutOfMemory };
+
+    fn from(_error: Memory) -> WordsError {
+        WordsError::Memory
+    }
+}

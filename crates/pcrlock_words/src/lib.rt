@@ -1,0 +1,21 @@
+//! The words of `pcrlock` and its texts.
+//!
+//! A command line, and each line of a script, is a list of words. This crate says which lists of words
+//! the program takes and which request each of them spells, and it gives the texts that the program
+//! prints: what a command writes on standard output, and the one line on standard error by which an
+//! answer other than success is told.
+#![tactic(auto)]
+
+mod answer;
+mod error;
+mod lines;
+mod place;
+mod request;
+mod texts;
+
+pub use answer::Answer;
+pub use error::WordsError;
+pub use lines::split_line;
+pub use place::Place;
+pub use request::Request;
+pub use texts::{answer_line, enrolled_line, key_line, status_line};

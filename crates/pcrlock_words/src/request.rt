@@ -1,0 +1,26 @@
+use hash_bank::Bank;
+use pl_base::{List, Name, Small};
+
+/// What a list of words asks for. Each field holds the value of the option of its name, or the option's
+/// default where the words don't give it; it is `None` where an option without a default isn't given.
+///
+/// `policy` is the policy file's path in force: inside a script the script's, else that of `--policy`.
+#[derive(Debug, Drop)]
+pub enum Request {
+    /// Runs the lines of the script in `file`, each of them under `policy` and the NV index `index`,
+    /// a handle from 01000000 to 01ffffff.
+    Script { file: Name, policy: Name, index: u32 },
+    /// Seals `key`, 1 to 128 bytes, or a key that is drawn, and writes the token file `token`. With
+    /// `literal` the object opens at the present value of that PCR, 0 to 23, in `bank`.
+    Enroll {
+        token: Name,
+        policy: Name,
+        key: Option<Small>,
+        literal: Option<u8>,
+        bank: Bank,
+    },
+    /// Opens the object that the token file `token` names.
+    Unseal { token: Name, policy: Name },
+    /// Extends the PCR, 0 to 23, in each bank with that bank's hash of `bytes`.
+    TpmExtend { pcr: u8, bytes: List<u8> },
+}
