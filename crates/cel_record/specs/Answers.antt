@@ -2,7 +2,6 @@
 use Rattle.std.specs.Prelude.{◌≡◌, Result, Ok, Err}
 use Rattle.cel_record.specs.declared.error.RecordsError.{RecordsError}
 use Rattle.cel_record.specs.declared.error.RecordsError.TheVariants as errors
-use Rattle.cel_record.specs.declared.kind.RecordKind.{RecordKind}
 
 -- the refusal is that of the definition, or want of memory
 abbrev pub Refuses : {Y : Type 0} → RecordsError → Result Y RecordsError → Type 0

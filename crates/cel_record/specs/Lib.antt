@@ -7,3 +7,5 @@ pub mod Spelled
 pub mod RecordText
 pub mod ComponentText
 pub mod Answers
+pub mod Written
+pub mod Commas

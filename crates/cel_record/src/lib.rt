@@ -11,7 +11,10 @@ mod kind;
 mod member;
 mod reader;
 mod record;
+#[cfg(test)]
+mod tests;
 mod value;
+mod writer;
 
 pub use component::read_records;
 pub use error::RecordsError;
@@ -19,3 +22,4 @@ pub use kind::RecordKind;
 pub use reader::read_record;
 pub use record::CelRecord;
 pub use value::read_value;
+pub use writer::write_cel;

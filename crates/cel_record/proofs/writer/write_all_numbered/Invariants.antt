@@ -1,0 +1,8 @@
+use Rattle.std.proofs.Common.{◌≡◌, ◌++◌, drop, false, map, nat_lt, string_bytes}
+use Rattle.cel_record.specs.Commas.{comma_texts}
+use Rattle.cel_record.specs.Spelled.{spelled}
+use Rattle.cel_record.specs.Written.{numbered_texts}
+use Rattle.cel_record.proofs.writer.write_all_numbered.Given as goal
+
+abbrev pub invariant-loop-number : goal.invariant-loop-number
+invariant-loop-number l = string_bytes l.out ++ comma_texts (nat_lt 0 l.number) (numbered_texts l.number (map spelled (drop l.number l.records))) ≡ string_bytes l.fn.out ++ comma_texts false (numbered_texts 0 (map spelled l.records))
