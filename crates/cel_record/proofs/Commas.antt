@@ -1,5 +1,6 @@
 -- Texts with commas between them, written one after another.
-use Rattle.std.proofs.Common.{◌≡◌, ℕ, List, [], ◌∷◌, ◌++◌, Bool, true, false, refl, sym, ap, ◌∙◌, append-nil}
+use Rattle.std.proofs.Common.{◌≡◌, ◌<◌, ◌+◌, ℕ, List, [], ◌∷◌, ◌++◌, Bool, true, false, drop, flat_map, get_or, length, refl, sym, ap, ◌∙◌, add-one, append-nil}
+use Rattle.std.proofs.Math.Seq.{drop-cons}
 use Rattle.std.specs.List.{join_with_byte}
 use Rattle.cel_record.specs.Commas.{comma_texts}
 
@@ -18,3 +19,8 @@ all_written out old later [] texts e h = sym (append-nil out) ∙ h ∙ ap (λ s
 all_written out old later (t ∷ ts) texts e h = cc
 
 pub ruleset comma_laws = (comma_texts-join)
+
+-- the next of some things, and those behind it
+pub next_texts : {X : Type 0} (f : X → List (List ℕ)) (xs : List X) (i : ℕ) (d : X) → i < length xs
+    → flat_map f (drop i xs) ≡ f (get_or xs i d) ++ flat_map f (drop (i + 1) xs)
+next_texts f xs i d h = rw add-one (ap (flat_map f) (drop-cons xs i d h))

@@ -9,3 +9,4 @@ pub mod ComponentText
 pub mod Answers
 pub mod Written
 pub mod Commas
+pub mod Proper

@@ -40,6 +40,10 @@ pcr_text pcr = codes "],\"pcr\":" ++ decimal pcr
 abbrev pub record_front : Spelled → List ℕ
 record_front r = record_opening ++ with_commas (digest_texts r.digests) ++ pcr_text r.pcr
 
+-- a record that stands alone
+abbrev pub record_text : Spelled → List ℕ
+record_text r = record_front r ++ 125 ∷ []
+
 -- a record's number in its file, and the closing brace
 unfoldable pub number_text : ℕ → List ℕ
 number_text n = codes ",\"recnum\":" ++ decimal n ++ codes "}"

@@ -1,4 +1,4 @@
-//! Component files.
+//! Component files (systemd.pcrlock(5)).
 ghost use Rattle.std.specs.Prelude.{◌≡◌, ◌≤◌, ◌<◌, ◌^◌, map};
 ghost use Rattle.serde_json.specs.View.{view, items_view};
 ghost use Rattle.cel_record.specs.Answers.{Answers};
@@ -16,6 +16,7 @@ use pl_base::List;
 use serde_json::Value;
 use std::alloc::Global;
 
+// How many records one file may have.
 const RECORD_LIMIT: usize = 256;
 
 // The record that the value of this number is.
@@ -64,7 +65,14 @@ fn values_under(value: &Value) -> Result<&Vec<Value>, RecordsError>
         .ok_or(RecordsError::NotRecords)
 }
 
-/// Reads a component file.
+/// The records of a component file (systemd.pcrlock(5)): those of an array, or of the array `records`
+/// of an object, at most 256.
+///
+/// # Errors
+///
+/// `NotJson` where the bytes are no JSON text, then `NotRecords` where the value lists no values; then
+/// for the first value that is no record `BadRecord` with its number and kind, or `TooMany` where 256
+/// records stand before a further value. `Memory` may come at any step.
 pub fn read_records(alloc: Global, bytes: &[u8]) -> Result<List<CelRecord>, RecordsError>
     ensures { Answers (λ l. map spelled l) result (component_of bytes.now) }
 {

@@ -22,4 +22,4 @@ pub use kind::RecordKind;
 pub use reader::read_record;
 pub use record::CelRecord;
 pub use value::read_value;
-pub use writer::write_cel;
+pub use writer::{record_text, write_cel};

@@ -1,4 +1,4 @@
-//! Reads.
+//! A JSON value as a record.
 ghost use Rattle.std.specs.Prelude.{◌≡◌};
 ghost use Rattle.serde_json.specs.View.{view};
 ghost use Rattle.cel_record.specs.Step.{Gives};
@@ -9,7 +9,6 @@ use crate::digests::read_digests;
 use crate::kind::RecordKind;
 use crate::record::CelRecord;
 use crate::value::{array_under, unsigned_under};
-use hash_bank::Digests;
 use serde_json::Value;
 
 // The number of a PCR, of which a PC has 24.
@@ -23,7 +22,14 @@ fn pcr_of(number: u64) -> Option<u8>
     }
 }
 
-/// Reads a record from a JSON value.
+/// The record that a JSON value is, by its members `pcr` and `digests` (TCG Canonical Event Log);
+/// other members are passed over. Each member of `digests` has the texts `hashAlg` and `digest`, the
+/// digest in hexadecimal digits of either case. The algorithms `sha1`, `sha256`, `sha384` and
+/// `sha512` are read, at most once each, and those with another name are passed over.
+///
+/// # Errors
+///
+/// The first test of `RecordKind` that fails.
 pub fn read_record(value: &Value) -> Result<CelRecord, RecordKind>
     ensures { Gives spelled result (record_of (view value.now)) }
 {
