@@ -1,0 +1,17 @@
+-- What a reader answers, but for want of memory.
+use Rattle.std.specs.Prelude.{◌≡◌, Result, Ok, Err}
+use Rattle.cel_record.specs.declared.error.RecordsError.{RecordsError}
+use Rattle.cel_record.specs.declared.error.RecordsError.TheVariants as errors
+
+-- the refusal is that of the definition, or want of memory
+abbrev pub Refuses : {Y : Type 0} → RecordsError → Result Y RecordsError → Type 0
+Refuses errors.Memory given = Unit {0}
+Refuses errors.NotJson given = given ≡ Err errors.NotJson
+Refuses errors.NotRecords given = given ≡ Err errors.NotRecords
+Refuses (errors.BadRecord n kind) given = given ≡ Err (errors.BadRecord n kind)
+Refuses errors.TooMany given = given ≡ Err errors.TooMany
+
+-- the answer is what the definition gives, its success seen by view
+abbrev pub Answers : {X Y : Type 0} → (X → Y) → Result X RecordsError → Result Y RecordsError → Type 0
+Answers view (Ok x) given = given ≡ Ok (view x)
+Answers view (Err e) given = Refuses e given

@@ -1,0 +1,12 @@
+pub mod Step
+pub mod Kind
+pub mod JsonValue
+pub mod Listed
+pub mod Member
+pub mod Spelled
+pub mod RecordText
+pub mod ComponentText
+pub mod Answers
+pub mod Written
+pub mod Commas
+pub mod Proper
