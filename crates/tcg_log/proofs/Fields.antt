@@ -1,15 +1,14 @@
 -- A field that is read is the field that was written, and what was written is read again.
-use Rattle.std.proofs.Common.{◌≡◌, ℕ, zero, suc, ◌+◌, ◌^◌, ◌<◌, ◌≤◌, Bool, true, false, cond, ltb, List, [], ◌∷◌, ◌++◌, length, get_or, take, drop, Result, Ok, Err, refl, sym, ap, subst, ◌∙◌, append_assoc, arith, inl, inr}
+use Rattle.std.proofs.Common.{◌≡◌, ℕ, suc, ◌+◌, ◌^◌, ◌<◌, ◌≤◌, Bool, true, false, cond, ltb, ◌&&◌, not, List, [], ◌∷◌, ◌++◌, length, take, drop, Result, Ok, Err, refl, sym, ap, subst, ◌∙◌, append_assoc, arith, inl, inr}
 use Rattle.std.specs.Int.{Width, w16, w32, byte_len, from_le_bytes, to_le_bytes}
 use Rattle.std.specs.Str.{bytes_eq}
 use Rattle.std.proofs.lemmas.Bool.{cases_lt, ltb-false, le-ltb}
 use Rattle.std.proofs.lemmas.List.{take_at, drop_at, take-append-drop, length-append, length-take, get_or-drop, get_or-take, get_or_past}
 use Rattle.std.proofs.lemmas.Slice.Eq.{bytes_eq-Decides}
 use Rattle.std.proofs.lemmas.Nat.{le_bytes_2, le_bytes_4, from_le_bytes-to_le_bytes_2, from_le_bytes-to_le_bytes_4}
-use Rattle.tcg_log.specs.declared.error.LogKind.TheVariants.{Cut, NoSpecId}
 use Rattle.tcg_log.specs.declared.error.LogError.{LogError}
 use Rattle.tcg_log.specs.Allowed.{IsBytes}
-use Rattle.tcg_log.specs.Reading.{◌>>=◌, fault, bytes_at, number_at, byte_at, constant_at}
+use Rattle.tcg_log.specs.Reading.{◌>>=◌, bytes_at, number_at, byte_at, constant_at}
 
 -- ---- steps that did not fail
 
@@ -21,6 +20,33 @@ pub record Then {A B : Type 0} (r : Result A LogError) (f : A → Result B LogEr
 pub bind_ok : {A B : Type 0} {r : Result A LogError} {f : A → Result B LogError} {y : B} → (r >>= f) ≡ Ok y → Then r f y
 bind_ok {r = Ok x} e = record { value = x; first = refl; second = e }
 bind_ok {r = Err d} e = absurd cc
+
+-- a step that gives a value, and what follows
+pub bind_eq : {A B : Type 0} {r : Result A LogError} {y : Result B LogError} (f : A → Result B LogError) (x : A) → r ≡ Ok x → f x ≡ y → (r >>= f) ≡ y
+bind_eq f x e d = ap (λ s. s >>= f) e ∙ d
+
+pub skip_test : {A : Type 0} {y z : A} (b : Bool) (x : A) → b ≡ false → y ≡ z → cond b x y ≡ z
+skip_test true x n e = absurd cc
+skip_test false x n e = e
+
+pub take_test : {A : Type 0} {x z : A} (b : Bool) (y : A) → b ≡ true → x ≡ z → cond b x y ≡ z
+take_test true y n e = e
+take_test false y n e = absurd cc
+
+-- both tests hold
+pub both : (a b : Bool) → (a && b) ≡ true → (a ≡ true) × (b ≡ true)
+both true b e = (refl, e)
+both false b e = absurd cc
+
+pub all_of : (a b : Bool) → a ≡ true → b ≡ true → (a && b) ≡ true
+all_of a b p q = rw (p, q) refl
+
+pub not_false : (b : Bool) → not b ≡ true → b ≡ false
+not_false true e = absurd cc
+not_false false e = refl
+
+pub not_true : (b : Bool) → b ≡ false → not b ≡ true
+not_true b e = rw e refl
 
 pub passed_over : {A : Type 0} {b : Bool} (d : LogError) {r : Result A LogError} {y : A} → cond b (Err d) r ≡ Ok y → (b ≡ false) × (r ≡ Ok y)
 passed_over {b = true} d e = absurd cc

@@ -1,5 +1,5 @@
 -- Which logs have a text: each field has an allowed value, and each number fits its field.
-use Rattle.std.specs.Prelude.{◌≡◌, ℕ, ◌+◌, ◌<◌, ◌≤◌, ◌^◌, Bool, true, false, ◌&&◌, ◌||◌, not, nat_le, nat_lt, ◌==◌, if◌then◌else◌, List, [], ◌∷◌, ◌++◌, length, slice_index, Option, Some, None, IfSome, find}
+use Rattle.std.specs.Prelude.{◌≡◌, ℕ, ◌<◌, ◌≤◌, ◌^◌, Bool, true, false, ◌&&◌, ◌||◌, not, nat_le, nat_lt, ◌==◌, List, [], ◌∷◌, ◌++◌, length, slice_index, Option, find}
 use Rattle.std.specs.List.{All, AllByRecursion, list_any, list_all}
 use Rattle.std.specs.Option.{option_map, option_map_or}
 use Rattle.hash_bank.specs.Hash.{size_in, bank_of_algorithm}
@@ -107,3 +107,12 @@ pub record IsWritable (log : FirmwareLog) : Type 0 where
   pub fits : LogFits log
   pub records : length log.records ≤ 16384
   pub short : length (log_text log) ≤ 4194304
+
+-- the bytes begin with the text of a log that has as many records as there may be, and go on
+pub record HoldsMore (bytes : List ℕ) : Type 0 where
+  pub log : FirmwareLog
+  pub rest : List ℕ
+  pub front : FirmwareText (log_text log) log
+  pub full : length log.records ≡ 16384
+  pub more : 0 < length rest
+  pub parts : bytes ≡ log_text log ++ rest

@@ -13,6 +13,6 @@ mod spec_id;
 
 pub use error::{LogError, LogKind};
 pub use log::{FirmwareLog, LIMIT, RECORDS};
-
+pub use reading::read_log;
 pub use record::{EV_NO_ACTION, FirmwareRecord, Tagged};
 pub use spec_id::{Algorithm, SpecId};

@@ -1,6 +1,8 @@
-ghost use Rattle.std.specs.Prelude.{◌≡◌, ◌<◌, ◌≤◌, ◌^◌, [], length, IfOk};
+ghost use Rattle.std.specs.Prelude.{◌≡◌, ◌<◌, ◌≤◌, ◌^◌, [], length, IfOk, Ok, Err};
 ghost use Rattle.std.specs.Int.{w16, w32};
-ghost use Rattle.tcg_log.specs.Allowed.{AreSized, is_tagged};
+ghost use Rattle.tcg_log.specs.declared.error.LogError.TheVariants.{TooMany};
+ghost use Rattle.tcg_log.specs.declared.log.FirmwareLog.{FirmwareLog as TheLog};
+ghost use Rattle.tcg_log.specs.Allowed.{AreSized, is_tagged, FirmwareText, IsWritable, HoldsMore};
 ghost use Rattle.tcg_log.specs.Reading.{Gives, fault, number_at, byte_at, bytes_at, constant_at, head_at, algorithm_at, algorithms_at, named_at, vendor_at, class_at, spec_at, tagged_at, digests_at, counted_at, event_at, record_at, records_at, log_at};
 
 use crate::algorithm::{has_number, size_fits, size_of_number};
@@ -350,4 +352,25 @@ fn log(alloc: Global, bytes: &[u8]) -> Result<FirmwareLog, LogError>
         spec,
         records: List::from_vec(records),
     })
+}
+
+/// The log that the bytes spell, all of the bytes. There are at most 4,194,304 of them.
+///
+/// # Errors
+///
+/// `Malformed` names the offset at which the first field begins that ends after the bytes or has
+/// no allowed value. `TooMany` where 16,384 records were read and bytes remain.
+pub fn read_log(alloc: Global, bytes: &[u8]) -> Result<FirmwareLog, LogError>
+    requires { length bytes.now ≤ 4194304 }
+    // What is read is spelled so, and within the limits.
+    ensures found { IfOk result (λ log. FirmwareText bytes.now log × IsWritable log) }
+    // What is spelled so is read, unless memory runs out.
+    ensures only { (log : TheLog) → FirmwareText bytes.now log → length log.records ≤ 16384 → Gives (λ x. x) result (Ok log) }
+    // Too many are those that a full log goes before.
+    ensures too_many { result ≡ Err TooMany → HoldsMore bytes.now }
+    ensures more { HoldsMore bytes.now → Gives (λ x. x) result (Err TooMany) }
+    // Which fault it is.
+    ensures exact { Gives (λ x. x) result (log_at bytes.now) }
+{
+    log(alloc, bytes)
 }

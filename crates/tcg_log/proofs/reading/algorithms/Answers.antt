@@ -14,7 +14,7 @@ pub loop-preserved : goal.loop-preserved
 loop-preserved c = record {
   exact = rw c.in_ok-push.ensures.items (algorithms_go_on c.args.all c.args.count c.loop.counter c.loop.read.items c.loop.rest.now c.in_ok-next.next c.in_ok-next.after.now (algorithms_at c.args.all c.args.count [] c.args.bytes.now) c.loop-test.true c.loop.invariant.exact (rw c.deref.ensures.value at c.in_ok-next.ensures.exact));
   sized = rw c.in_ok-push.ensures.items (All-push (λ a. (1 ≤ a.size) × (a.size ≤ 64)) c.loop.read.items c.in_ok-next.next c.loop.invariant.sized c.in_ok-next.ensures.sized);
-  few = rw c.in_ok-push.ensures.items (omega (arith, length-append c.loop.read.items (c.in_ok-next.next ∷ []), c.loop.invariant.few))
+  few = rw c.in_ok-push.ensures.items (omega (arith, length-append c.loop.read.items (c.in_ok-next.next ∷ []), c.loop.invariant.few));
 }
 
 pub returns-clause-exact : goal.returns-clause-exact

@@ -7,5 +7,5 @@ abbrev pub invariant-loop : goal.invariant-loop
 invariant-loop l = record {
   exact : algorithms_at l.all (l.count - l.counter) l.read.items l.rest ≡ algorithms_at l.all l.count [] l.bytes;
   sized : AreSized l.read.items;
-  few : length l.read.items ≤ l.counter
+  few : length l.read.items ≤ l.counter;
 }
