@@ -1,0 +1,5 @@
+pub mod Loops
+pub mod Fields
+pub mod SpecLaws
+pub mod RecordLaws
+pub mod LogLaws

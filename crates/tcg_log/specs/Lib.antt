@@ -1,0 +1,3 @@
+pub mod Text
+pub mod Allowed
+pub mod Reading
