@@ -1,3 +1,4 @@
 pub mod Sizes
 pub mod Digits
 pub mod Joined
+pub mod Bytes

@@ -1,6 +1,6 @@
 -- The strings whose hash is a policy's digest (TPM 2.0 Library Part 3, the commands named). All
 -- numbers are big-endian.
-use Rattle.std.specs.Prelude.{ℕ, ◌/◌, ◌%◌, List, [], ◌∷◌, ◌++◌}
+use Rattle.std.specs.Prelude.{ℕ, ◌/◌, ◌%◌, List, [], ◌∷◌}
 use Rattle.std.specs.Int.{w16, w32, to_be_bytes}
 use Rattle.std.specs.List.{concat}
 use Rattle.hash_bank.specs.declared.bank.Bank.{Bank}

@@ -1,4 +1,4 @@
-use Rattle.std.proofs.Common.{length, ap, ◌++◌, ◌∙◌}
+use Rattle.std.proofs.Common.{length, ap, ◌++◌}
 use Rattle.std.proofs.lemmas.List.{drop-replicate}
 use Rattle.policy_digest.proofs.group.room_of.Goals as goal
 
