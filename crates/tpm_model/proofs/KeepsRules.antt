@@ -13,7 +13,6 @@ use Rattle.hash_bank.specs.declared.bank.Bank.TheVariants.{Sha1, Sha256, Sha384,
 use Rattle.hash_bank.specs.declared.banks.Banks.{Banks}
 use Rattle.hash_bank.specs.declared.digests.Digests.{Digests}
 use Rattle.hash_bank.specs.Banks.{has_bank}
-use Rattle.hash_bank.specs.Digests.{digest_at}
 use Rattle.hash_bank.specs.Hash.{size_in}
 use Rattle.hash_bank.proofs.Sizes.{length-digest_in, length-zeros_in}
 use Rattle.tpm_model.specs.declared.response.Response.{Response}
@@ -190,8 +189,8 @@ keeps-policy_pcr handle bank pcrs s h = on (session_at handle s.sessions) refl
         noted (noted_before session.noted s.update_counter) session e))
 
 -- an extend in one bank leaves the sizes
-extended_sizes : (banks : Banks) (pcr : ℕ) (digests : Digests) (bank : Bank) (pcrs : List (List ℕ)) → HasValues banks pcrs → HasValues banks (extended_in banks pcr digests bank pcrs)
-extended_sizes banks pcr digests bank pcrs h = on (pcr_of banks pcrs bank pcr) (digest_at digests bank) refl
+extended_sizes : (banks : Banks) (pcr : ℕ) (given : Option (List ℕ)) (bank : Bank) (pcrs : List (List ℕ)) → HasValues banks pcrs → HasValues banks (extended_in banks pcr given bank pcrs)
+extended_sizes banks pcr given bank pcrs h = on (pcr_of banks pcrs bank pcr) given refl
   where
     on : (o d : Option (List ℕ)) → pcr_of banks pcrs bank pcr ≡ o → HasValues banks (put_extended bank o d (place_of banks bank pcr) pcrs)
     on None d e = h
@@ -205,8 +204,8 @@ keeps-pcr_extend pcr digests s h =
     cond_both (nat_lt 23 pcr) _ _ Keeps (λ _. h) (λ _.
     cond_both (s.update_counter == 4294967295) _ _ Keeps (λ _. h) (λ _. record {
       banks = h.banks;
-      values = extended_sizes s.banks pcr digests Sha512 _ (extended_sizes s.banks pcr digests Sha384 _
-          (extended_sizes s.banks pcr digests Sha256 _ (extended_sizes s.banks pcr digests Sha1 _ h.values)));
+      values = extended_sizes s.banks pcr digests.sha512 Sha512 _ (extended_sizes s.banks pcr digests.sha384 Sha384 _
+          (extended_sizes s.banks pcr digests.sha256 Sha256 _ (extended_sizes s.banks pcr digests.sha1 Sha1 _ h.values)));
       next_session = h.next_session;
       next_object = h.next_object;
       session_count = h.session_count;

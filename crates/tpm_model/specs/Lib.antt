@@ -7,3 +7,6 @@ pub mod SessionCommands
 pub mod ObjectCommands
 pub mod Respond
 pub mod Fresh
+pub mod Binding
+pub mod World
+pub mod Tied

@@ -6,7 +6,6 @@ use Rattle.hash_bank.specs.declared.bank.Bank.TheVariants.{Sha1, Sha256, Sha384,
 use Rattle.hash_bank.specs.declared.banks.Banks.{Banks}
 use Rattle.hash_bank.specs.declared.digests.Digests.{Digests}
 use Rattle.hash_bank.specs.Banks.{has_bank}
-use Rattle.hash_bank.specs.Digests.{digest_at}
 use Rattle.hash_bank.specs.Extending.{extended}
 
 -- one for a bank that is present
@@ -48,16 +47,20 @@ put_extended bank (Some old) (Some digest) place pcrs = slice_set pcrs place (ex
 put_extended bank (Some old) None place pcrs = pcrs
 put_extended bank None _ place pcrs = pcrs
 
--- the values after an extend in one bank
-abbrev pub extended_in : Banks → ℕ → Digests → Bank → List (List ℕ) → List (List ℕ)
-extended_in banks pcr digests bank pcrs =
-    put_extended bank (pcr_of banks pcrs bank pcr) (digest_at digests bank) (place_of banks bank pcr) pcrs
+-- the values after an extend in one bank, where there is a digest for it
+abbrev pub extended_in : Banks → ℕ → Option (List ℕ) → Bank → List (List ℕ) → List (List ℕ)
+extended_in banks pcr digest bank pcrs =
+    put_extended bank (pcr_of banks pcrs bank pcr) digest (place_of banks bank pcr) pcrs
+
+-- the values after an extend of one PCR by the digests of SHA-1, SHA-256, SHA-384 and SHA-512
+abbrev pub after_digests : Banks → ℕ → Option (List ℕ) → Option (List ℕ) → Option (List ℕ) → Option (List ℕ) → List (List ℕ) → List (List ℕ)
+after_digests banks pcr sha1 sha256 sha384 sha512 pcrs =
+    extended_in banks pcr sha512 Sha512 (extended_in banks pcr sha384 Sha384
+        (extended_in banks pcr sha256 Sha256 (extended_in banks pcr sha1 Sha1 pcrs)))
 
 -- the values after an extend of one PCR in each present bank with a digest
 abbrev pub after_extend : Banks → ℕ → Digests → List (List ℕ) → List (List ℕ)
-after_extend banks pcr digests pcrs =
-    extended_in banks pcr digests Sha512 (extended_in banks pcr digests Sha384
-    (extended_in banks pcr digests Sha256 (extended_in banks pcr digests Sha1 pcrs)))
+after_extend banks pcr digests pcrs = after_digests banks pcr digests.sha1 digests.sha256 digests.sha384 digests.sha512 pcrs
 
 -- the sizes of the 24 values of a bank, where it is present
 abbrev pub sizes_if : Bool → ℕ → List ℕ

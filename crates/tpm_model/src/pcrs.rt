@@ -2,6 +2,7 @@
 ghost use Rattle.std.specs.Prelude.{◌≡◌, ◌+◌, ◌*◌, ◌<◌, ◌≤◌, true, ◌++◌, length, take, IfOk, OnOk, IfSome};
 ghost use Rattle.hash_bank.specs.Hash.{size_in};
 ghost use Rattle.hash_bank.specs.Banks.{has_bank};
+ghost use Rattle.hash_bank.specs.Digests.{digest_at};
 ghost use Rattle.tpm_model.specs.Fresh.{starts_from, starts_if, start_values};
 ghost use Rattle.policy_digest.specs.Policies.{IsPolicyHash};
 ghost use Rattle.tpm_model.specs.PcrCommands.{pcr_extend, pcr_read};
@@ -56,7 +57,7 @@ pub(crate) fn pcr_value(banks: Banks, pcrs: &[Digest], bank: Bank, pcr: u8) -> O
 /// Extends the PCR in one bank, where it is present and there is a digest for it.
 fn extend_in(banks: Banks, pcrs: &mut List<Digest>, bank: Bank, pcr: u8, digests: &Digests)
     requires { HasValues banks pcrs.old }
-    ensures value { pcrs.new ≡ extended_in banks pcr digests.now bank pcrs.old }
+    ensures value { pcrs.new ≡ extended_in banks pcr (digest_at digests.now bank) bank pcrs.old }
     ensures values { HasValues banks pcrs.new }
 {
     let Some(old) = pcr_value(banks, pcrs.as_slice(), bank, pcr) else {

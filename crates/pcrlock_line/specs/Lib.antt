@@ -1,0 +1,4 @@
+pub mod Machine
+pub mod Outcome
+pub mod Causes
+pub mod Content

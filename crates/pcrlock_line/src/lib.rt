@@ -1,0 +1,14 @@
+//! What every command of the program shares: the machine that its objects tell, the outcome of a
+//! line of words, why a line stops before its end, and reading a file under a limit. The definition
+//! of each command stands in the crate of its group, above this one.
+#![tactic(auto)]
+
+mod device;
+mod reading;
+mod reply;
+mod stop;
+
+pub use crate::device::ready;
+pub use crate::reading::{Found, read_file};
+pub use crate::reply::Reply;
+pub use crate::stop::Stop;
