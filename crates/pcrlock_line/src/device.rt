@@ -18,6 +18,8 @@ pub fn ready<T: Tpm>(alloc: Global, tpm: &mut T) -> Result<Result<(), BeginError
         Ok(()) => Ok(Ok(())),
         Err(BeginError::Failed) => Err(Stop::TpmFault),
         Err(BeginError::Memory) => Err(Stop::Memory),
-        Err(error) => Ok(Err(error)),
+        Err(BeginError::TooLarge(size)) => Ok(Err(BeginError::TooLarge(size))),
+        Err(BeginError::Malformed(place)) => Ok(Err(BeginError::Malformed(place))),
+        Err(BeginError::BadRule(rule)) => Ok(Err(BeginError::BadRule(rule))),
     }
 }

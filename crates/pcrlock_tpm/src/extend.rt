@@ -1,0 +1,53 @@
+//! `tpm-extend`: one PCR is extended by the hashes of some bytes.
+ghost use Rattle.std.specs.Prelude.{◌≡◌, ◌≤◌, ℕ, true, Some, Ok, Err, IfOk, IfErr};
+ghost use Rattle.tpm_model.specs.declared.parts.Parts.{Parts};
+ghost use Rattle.tpm_device.specs.Stored.{Holds};
+ghost use Rattle.pcrlock_line.specs.Machine.{Machine, Tells};
+ghost use Rattle.pcrlock_line.specs.Outcome.{Gives};
+ghost use Rattle.pcrlock_line.specs.Causes.{HasCauses};
+ghost use Rattle.pl_base.specs.FileMap.{FileMap};
+ghost use Rattle.std.specs.Prelude.{Option, List as Sequence};
+ghost use Rattle.pcrlock_tpm.specs.Extend.{tpm_extend_line, is_extended as extends, StopsAround};
+
+use hash_bank::hash_all;
+use pcrlock_line::{Reply, Stop, ready};
+use pcrlock_words::Answer;
+use std::alloc::Global;
+use tpm_device::{ExecError, Tpm};
+use tpm_model::{Command, Response};
+
+/// Whether the extend was accepted.
+fn is_done(response: &Response) -> bool
+    ensures { result ≡ extends response.now }
+{
+    matches!(response, Response::Done)
+}
+
+/// Extends the PCR, at most 23, in each present bank by that bank's hash of the bytes.
+pub fn tpm_extend<T: Tpm>(alloc: Global, tpm: &mut T, pcr: u8, bytes: &[u8]) -> Result<Reply, Stop>
+    requires { pcr ≤ 23 }
+    ensures causes { HasCauses (0, 0, T.faults tpm.old, 0) (0, 0, T.faults tpm.new, 0) result }
+    ensures told { (held : Option FileMap) (words : Option (Sequence (Sequence ℕ))) (m : Machine) → Tells held (T.stored tpm.old) words m
+        → IfOk result (λ reply. Gives held (T.stored tpm.new) words reply (tpm_extend_line pcr bytes.now m)) }
+    ensures stops { (held : Option FileMap) (words : Option (Sequence (Sequence ℕ))) (m : Machine) → Tells held (T.stored tpm.old) words m
+        → IfErr result (λ _. StopsAround held (T.stored tpm.new) words m (tpm_extend_line pcr bytes.now m).after) }
+{
+    if ready(alloc, tpm)?.is_err() {
+        return Err(Stop::Memory);
+    }
+    let command = Command::PcrExtend {
+        pcr,
+        digests: hash_all(bytes),
+    };
+    match tpm.execute(alloc, &command) {
+        Ok(response) => {
+            if is_done(&response) {
+                Ok(Reply::Fine(Vec::new(alloc)))
+            } else {
+                Ok(Reply::Refused(Answer::CounterEnd { writes: false }))
+            }
+        }
+        Err(ExecError::Failed) => Err(Stop::TpmFault),
+        Err(ExecError::Memory) => Err(Stop::Memory),
+    }
+}
