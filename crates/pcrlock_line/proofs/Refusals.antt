@@ -1,11 +1,15 @@
 -- A stored state is never refused.
-use Rattle.std.proofs.Common.{◌≡◌, ℕ, subst}
+use Rattle.std.proofs.Common.{◌≡◌, ◌⊎◌, ℕ, inl, inr, subst}
 use Rattle.std.specs.Prelude.{Option, Result, Ok, Err}
 use Rattle.tpm_model.specs.declared.parts.Parts.{Parts}
 use Rattle.tpm_model.specs.declared.state.StateRule.{StateRule}
 use Rattle.tpm_device.specs.declared.device.BeginError.{BeginError}
 use Rattle.tpm_device.specs.declared.device.BeginError.TheVariants as begin
-use Rattle.tpm_device.specs.Stored.{Holds, BeginGives}
+use Rattle.tpm_device.specs.declared.device.ExecError.{ExecError}
+use Rattle.tpm_device.specs.declared.device.ExecError.TheVariants as exec
+use Rattle.tpm_model.specs.declared.command.Command.{Command}
+use Rattle.tpm_device.specs.Stored.{Stored, Holds, BeginGives, ExecuteStores}
+use Rattle.pcrlock_line.specs.Asked.{IsStopped}
 
 pub too_large : (s : Parts) (error : BeginError) (size : ℕ) (now : Option Parts) → error ≡ begin.TooLarge size → BeginGives (Holds s) (Err error) now → ⊥
 too_large s error size now e h = let refused = subst (λ (x : BeginError). BeginGives (Holds s) (Err x) now) e h in cc refused
@@ -15,3 +19,11 @@ malformed s error place now e h = let refused = subst (λ (x : BeginError). Begi
 
 pub bad_rule : (s : Parts) (error : BeginError) (rule : StateRule) (now : Option Parts) → error ≡ begin.BadRule rule → BeginGives (Holds s) (Err error) now → ⊥
 bad_rule s error rule now e h = let refused = subst (λ (x : BeginError). BeginGives (Holds s) (Err x) now) e h in cc refused
+
+-- what is stored after a failure, and after want of memory
+pub after_failure : (command : Command) (s : Parts) (error : ExecError) (now : Option Stored) → error ≡ exec.Failed → ExecuteStores command s (Err error) now → IsStopped command s now
+after_failure command s error now e h = subst (λ (x : ExecError). ExecuteStores command s (Err x) now) e h
+
+pub after_memory : (command : Command) (s : Parts) (error : ExecError) (now : Option Stored) → error ≡ exec.Memory → ExecuteStores command s (Err error) now → IsStopped command s now
+after_memory command s error now e h =
+    let same = subst (λ (x : ExecError). ExecuteStores command s (Err x) now) e h in inl same

@@ -2,3 +2,4 @@ pub mod Machine
 pub mod Outcome
 pub mod Causes
 pub mod Content
+pub mod Asked

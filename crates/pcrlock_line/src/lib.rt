@@ -8,7 +8,7 @@ mod reading;
 mod reply;
 mod stop;
 
-pub use crate::device::ready;
+pub use crate::device::{ask, ready};
 pub use crate::reading::{Found, read_file};
 pub use crate::reply::Reply;
 pub use crate::stop::Stop;

@@ -10,10 +10,10 @@ ghost use Rattle.std.specs.Prelude.{Option, List as Sequence};
 ghost use Rattle.pcrlock_tpm.specs.Extend.{tpm_extend_line, is_extended as extends, StopsAround};
 
 use hash_bank::hash_all;
-use pcrlock_line::{Reply, Stop, ready};
+use pcrlock_line::{Reply, Stop, ask, ready};
 use pcrlock_words::Answer;
 use std::alloc::Global;
-use tpm_device::{ExecError, Tpm};
+use tpm_device::Tpm;
 use tpm_model::{Command, Response};
 
 /// Whether the extend was accepted.
@@ -39,7 +39,7 @@ pub fn tpm_extend<T: Tpm>(alloc: Global, tpm: &mut T, pcr: u8, bytes: &[u8]) -> 
         pcr,
         digests: hash_all(bytes),
     };
-    match tpm.execute(alloc, &command) {
+    match ask(alloc, tpm, &command) {
         Ok(response) => {
             if is_done(&response) {
                 Ok(Reply::Fine(Vec::new(alloc)))
@@ -47,7 +47,6 @@ pub fn tpm_extend<T: Tpm>(alloc: Global, tpm: &mut T, pcr: u8, bytes: &[u8]) -> 
                 Ok(Reply::Refused(Answer::CounterEnd { writes: false }))
             }
         }
-        Err(ExecError::Failed) => Err(Stop::TpmFault),
-        Err(ExecError::Memory) => Err(Stop::Memory),
+        Err(stop) => Err(stop),
     }
 }

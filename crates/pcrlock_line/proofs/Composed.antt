@@ -1,0 +1,53 @@
+-- The causes of two steps, one after the other, are causes of the whole.
+use Rattle.std.proofs.Common.{◌≡◌, ◌⊎◌, ℕ, ◌+◌, ◌-◌, ◌^◌, ◌≤◌, min, inl, inr, subst, arith}
+use Rattle.std.specs.Prelude.{Result, Ok, Err}
+use Rattle.pl_base.specs.Faults.{Rose}
+use Rattle.pcrlock_line.specs.declared.stop.Stop.{Stop}
+use Rattle.pcrlock_line.specs.declared.stop.Stop.TheVariants.{ReadFault, WriteFault, EntropyFault, TpmFault, Memory}
+use Rattle.pcrlock_line.specs.Causes.{Counts, IsCaused, HasCauses}
+
+rose_since : (a b c : ℕ) → a ≤ b → Rose b c → Rose a c
+rose_since a b c h r = omega (arith, h, r)
+
+rose_until : (a b c : ℕ) → b ≤ c → Rose a b → Rose a c
+rose_until a b c h r = omega (arith, h, r)
+
+-- a cause in a later step
+caused_since : (a b c : Counts) (stop : Stop) → a.0 ≤ b.0 → a.1 ≤ b.1 → a.2 ≤ b.2 → a.3 ≤ b.3 → IsCaused b c stop → IsCaused a c stop
+caused_since a b c ReadFault h0 h1 h2 h3 r = rose_since a.0 b.0 c.0 h0 r
+caused_since a b c WriteFault h0 h1 h2 h3 (inl r) = inl (rose_since a.0 b.0 c.0 h0 r)
+caused_since a b c WriteFault h0 h1 h2 h3 (inr r) = inr (rose_since a.3 b.3 c.3 h3 r)
+caused_since a b c EntropyFault h0 h1 h2 h3 r = rose_since a.1 b.1 c.1 h1 r
+caused_since a b c TpmFault h0 h1 h2 h3 r = rose_since a.2 b.2 c.2 h2 r
+caused_since a b c Memory h0 h1 h2 h3 r = tt
+
+-- the second step stops
+pub then_stops : {A B D : Type 0} (a b c : Counts) (first : Result A Stop) (second : Result B Stop) (stop : Stop)
+    → HasCauses a b first → HasCauses b c second → second ≡ Err stop → HasCauses {A = D} a c (Err stop)
+then_stops a b c first second stop h k e = record {
+  files = omega (arith, h.files, k.files);
+  entropy = omega (arith, h.entropy, k.entropy);
+  tpm = omega (arith, h.tpm, k.tpm);
+  out = omega (arith, h.out, k.out);
+  cause = λ other same. caused_since a b c other h.files h.entropy h.tpm h.out
+      (k.cause other (let same_stop : stop ≡ other = cc in cc));
+}
+
+-- the first step stops
+pub stops : {A D : Type 0} (a b : Counts) (first : Result A Stop) (stop : Stop)
+    → HasCauses a b first → first ≡ Err stop → HasCauses {A = D} a b (Err stop)
+stops a b first stop h e = record {
+  files = h.files; entropy = h.entropy; tpm = h.tpm; out = h.out;
+  cause = λ other same. h.cause other (let same_stop : stop ≡ other = cc in cc);
+}
+
+-- neither step stops
+pub then_ends : {A B D : Type 0} (a b c : Counts) (first : Result A Stop) (second : Result B Stop) (x : D)
+    → HasCauses a b first → HasCauses b c second → HasCauses a c (Ok x)
+then_ends a b c first second x h k = record {
+  files = omega (arith, h.files, k.files);
+  entropy = omega (arith, h.entropy, k.entropy);
+  tpm = omega (arith, h.tpm, k.tpm);
+  out = omega (arith, h.out, k.out);
+  cause = λ other same. absurd (cc same);
+}
