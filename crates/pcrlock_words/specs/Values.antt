@@ -66,7 +66,7 @@ key_of value = bytes_between 2 256 value
 abbrev pub hex_of : List ℕ → Option (List ℕ)
 hex_of value = bytes_between 0 256 value
 
--- a handle of the owner's NV indices, 01000000 to 01ffffff (TPM 2.0 Library Part 2, TPM_HT_NV_INDEX)
+-- a handle of an NV index, 01000000 to 01ffffff (TPM 2.0 Library Part 2, TPM_HT_NV_INDEX)
 abbrev pub nv_handle : ℕ → Option ℕ
 nv_handle handle = if nat_le 0x01000000 handle && nat_le handle 0x01ffffff then Some handle else None
 

@@ -1,4 +1,4 @@
-ghost use Rattle.std.specs.Prelude.{◌≡◌, ◌++◌, IfOk, codes, string_bytes};
+ghost use Rattle.std.specs.Prelude.{◌≡◌, IfOk, string_bytes};
 ghost use Rattle.pcrlock_words.specs.Texts.{answer_text, enrolled_text, handle_text, key_text, status_text};
 
 use crate::answer::Answer;

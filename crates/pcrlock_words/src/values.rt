@@ -1,6 +1,6 @@
-ghost use Rattle.std.specs.Prelude.{◌≡◌, ◌^◌, ◌<◌, option_and_then, option_copied};
+ghost use Rattle.std.specs.Prelude.{◌≡◌};
 ghost use Rattle.pcrlock_words.specs.Readings.{Gives};
-ghost use Rattle.pcrlock_words.specs.Values.{bank_of, bytes_between, defaulted, hex_of, index_of, is_plain, key_of, number_up_to, nv_handle, optional, path_of, pcr_of, required};
+ghost use Rattle.pcrlock_words.specs.Values.{bank_of, bytes_between, hex_of, index_of, is_plain, key_of, number_up_to, nv_handle, path_of, pcr_of};
 
 use crate::error::WordsError;
 use hash_bank::Bank;
@@ -47,7 +47,7 @@ pub(crate) fn read_bank(value: &str) -> Option<Bank>
     Bank::ALL.iter().copied().find(|bank| bank.name() == value)
 }
 
-// The handle of an NV index of the owner's range.
+// A number as the handle of an NV index (TPM 2.0 Library Part 2, TPM_HT_NV_INDEX).
 fn nv_handle(handle: u32) -> Option<u32>
     ensures { result ≡ nv_handle handle }
 {
