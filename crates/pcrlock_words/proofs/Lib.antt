@@ -1,1 +1,4 @@
 pub mod LineLemmas
+pub mod Bytes
+pub mod OptionLemmas
+pub mod Numbers

@@ -1,5 +1,5 @@
 -- Cutting a line at one blank after another.
-use Rattle.std.proofs.Common.{◌≡◌, ℕ, ◌+◌, ◌-◌, ◌<◌, ◌≤◌, Bool, true, false, cond, List, [], ◌∷◌, ◌++◌, length, get_or, take, drop, refl, sym, ap, ◌∙◌, subst, arith, add-one, append_assoc, take_all, below_more}
+use Rattle.std.proofs.Common.{◌≡◌, ℕ, ◌+◌, ◌-◌, ◌<◌, ◌≤◌, true, false, cond, List, [], ◌∷◌, ◌++◌, length, get_or, take, drop, refl, sym, ap, ◌∙◌, subst, arith, add-one, append_assoc, take_all, below_more}
 use Rattle.std.specs.List.{All, slice_split}
 use Rattle.std.specs.Str.{IsCharBoundary, IsUtf8}
 use Rattle.std.proofs.lemmas.Str.{IsCharBoundary-start, IsCharBoundary-after_ascii}
@@ -25,8 +25,8 @@ blank_is_ascii byte blank = grind (arith, nat_tests)
 pub words_among-cons : (part : List ℕ) (parts : List (List ℕ)) → words_among (part ∷ parts) ≡ words_among (part ∷ []) ++ words_among parts
 words_among-cons part parts =
     elim (not (length part == 0)) as (λ v. cond v (part ∷ words_among parts) (words_among parts) ≡ cond v (part ∷ []) [] ++ words_among parts) [
-      true ↦ refl
-    | false ↦ refl
+      | true ↦ refl
+      | false ↦ refl
     ]
 
 -- what stands from `start` on, up to `end`, has no blank
@@ -34,16 +34,16 @@ pub part_has_no_blank : (line : List ℕ) (words : List (List ℕ)) (start end :
 part_has_no_blank line words start end cut below = λ k d inside.
     let near : k < end - start = omega (arith, inside, length-take (end - start) (drop start line)) in
     let reads : get_or (take (end - start) (drop start line)) k d ≡ get_or line (start + k) d =
-        get_or-take (end - start) (drop start line) k d near ∙ get_or-drop start line k d in
+    get_or-take (end - start) (drop start line) k d near ∙ get_or-drop start line k d in
     let usual : get_or line (start + k) d ≡ get_or line (start + k) 0 =
-        get_or_default line (start + k) d 0 (omega (arith, near, below, cut.ordered)) in
+    get_or_default line (start + k) d 0 (omega (arith, near, below, cut.ordered)) in
     ap is_blank (reads ∙ usual) ∙ cut.no_blank (start + k) (omega arith) (omega (arith, near, cut.ordered))
 
 -- what stands from `start` on is a part, the byte at `end`, and what follows it
 pub drop_at : (line : List ℕ) (start end : ℕ) → start ≤ end → end < length line → drop start line ≡ take (end - start) (drop start line) ++ (get_or line end 0 ∷ drop (end + 1) line)
 drop_at line start end ordered below =
     let rest : drop (end - start) (drop start line) ≡ drop end line =
-        drop-drop (end - start) start line ∙ ap (λ n. drop n line) (omega (arith, ordered)) in
+    drop-drop (end - start) start line ∙ ap (λ n. drop n line) (omega (arith, ordered)) in
     let first : drop end line ≡ get_or line end 0 ∷ drop (end + 1) line = rw add-one (drop-cons line end 0 below) in
     sym (take-append-drop (end - start) (drop start line)) ∙ ap (λ tail. take (end - start) (drop start line) ++ tail) (rest ∙ first)
 
@@ -54,6 +54,7 @@ parts-blank line words start end cut below blank =
     ∙ slice_split_at is_blank (take (end - start) (drop start line)) (get_or line end 0) (drop (end + 1) line) (part_has_no_blank line words start end cut (omega (arith, below))) blank
 
 pub so_far-blank : (line : List ℕ) (words more : List (List ℕ)) (start end : ℕ) → Cut line words start end → end < length line → is_blank (get_or line end 0) ≡ true → more ≡ words ++ words_among (take (end - start) (drop start line) ∷ []) → more ++ words_of (drop (end + 1) line) ≡ words_of line
+unfolding words_of
 so_far-blank line words more start end cut below blank pushed =
     let part : List ℕ = take (end - start) (drop start line) in
     let rest : List (List ℕ) = words_of (drop (end + 1) line) in
@@ -65,11 +66,12 @@ so_far-blank line words more start end cut below blank pushed =
 
 -- behind the last blank there is one part
 pub so_far-end : (line : List ℕ) (words more : List (List ℕ)) (start end : ℕ) → Cut line words start end → end ≤ length line → length line ≤ end → more ≡ words ++ words_among (drop start line ∷ []) → more ≡ words_of line
+unfolding words_of
 so_far-end line words more start end cut within whole pushed =
     let short : length (drop start line) ≤ end - start = omega (arith, whole, length-drop start line) in
     let all : take (end - start) (drop start line) ≡ drop start line = take_all (end - start) (drop start line) short in
     let none : All (λ b. is_blank b ≡ false) (drop start line) =
-        subst (All (λ b. is_blank b ≡ false)) all (part_has_no_blank line words start end cut within) in
+    subst (All (λ b. is_blank b ≡ false)) all (part_has_no_blank line words start end cut within) in
     pushed
     ∙ ap (λ parts. words ++ words_among parts) (sym (slice_split_none is_blank (drop start line) none))
     ∙ cut.so_far
@@ -89,7 +91,7 @@ cut-more line words start end cut other = record {
   ordered = omega (arith, cut.ordered);
   boundary = cut.boundary;
   no_blank = λ k from below.
-    below_more (λ i. start ≤ i → is_blank (get_or line i 0) ≡ false) end (λ i before from_start. cut.no_blank i from_start before) (λ _. other) k below from;
+      below_more (λ i. start ≤ i → is_blank (get_or line i 0) ≡ false) end (λ i before from_start. cut.no_blank i from_start before) (λ _. other) k below from;
   so_far = cut.so_far;
 }
 

@@ -11,5 +11,5 @@ abbrev pub words_among : List (List ℕ) → List (List ℕ)
 words_among parts = filter (λ part. not (length part == 0)) parts
 
 -- the words of a line, which one or more blanks part
-abbrev pub words_of : List ℕ → List (List ℕ)
+unfoldable pub words_of : List ℕ → List (List ℕ)
 words_of line = words_among (slice_split is_blank line)

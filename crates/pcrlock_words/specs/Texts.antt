@@ -19,15 +19,15 @@ abbrev pub handle_text : ℕ → List ℕ
 handle_text handle = encode_lower (to_be_bytes w32 handle)
 
 -- the handle of the sealed object
-abbrev pub enrolled_text : ℕ → List ℕ
+unfoldable pub enrolled_text : ℕ → List ℕ
 enrolled_text handle = codes "enrolled " ++ handle_text handle ++ line_end
 
 -- the key that was opened
-abbrev pub key_text : List ℕ → List ℕ
+unfoldable pub key_text : List ℕ → List ℕ
 key_text key = codes "key " ++ encode_lower key ++ line_end
 
 -- the status of a script's line
-abbrev pub status_text : ℕ → List ℕ
+unfoldable pub status_text : ℕ → List ℕ
 status_text status = codes "= " ++ decimal status ++ line_end
 
 -- where something is malformed
@@ -44,7 +44,7 @@ counter_text true = codes "writes"
 counter_text false = codes "update"
 
 -- the line of an answer on standard error
-abbrev pub answer_text : Answer → List ℕ
+unfoldable pub answer_text : Answer → List ℕ
 answer_text (NotLiteral pcr now sealed) = codes "not literal: pcr " ++ decimal pcr ++ codes " holds " ++ encode_lower now ++ codes ", sealed to " ++ encode_lower sealed ++ line_end
 answer_text BadWords = codes "bad words" ++ line_end
 answer_text (Malformed path place) = codes "malformed: " ++ path ++ codes ": " ++ place_text place ++ line_end

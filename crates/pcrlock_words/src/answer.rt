@@ -7,17 +7,29 @@ use pl_base::Name;
 #[derive(Debug, Drop)]
 pub enum Answer {
     /// The PCR holds `now`, and the object opens only where it holds `sealed`.
-    NotLiteral { pcr: u8, now: Digest, sealed: Digest },
+    NotLiteral {
+        pcr: u8,
+        now: Digest,
+        sealed: Digest,
+    },
     /// The words are outside the set of command lines.
     BadWords,
     /// The file at `path` has no reading by its format, from `place` on.
-    Malformed { path: Name, place: Place },
+    Malformed {
+        path: Name,
+        place: Place,
+    },
     /// No file stands at this path.
     NoSuchFile(Name),
     /// What is counted under `kind` passes its limit with `number`.
-    Limit { kind: Name, number: u64 },
+    Limit {
+        kind: Name,
+        number: u64,
+    },
     /// A counter of the TPM stands at its end: that of writes to NV indices, or else that of PCR updates.
-    CounterEnd { writes: bool },
+    CounterEnd {
+        writes: bool,
+    },
     /// Reading a file or folder failed.
     ReadFault,
     /// Writing or removing a file, or writing to standard output, failed.
@@ -33,7 +45,10 @@ pub enum Answer {
     /// The TPM has no object of this handle.
     NoObject(u32),
     /// The object opens under another policy digest than that of the session.
-    WrongBinding { session: Digest, object: Digest },
+    WrongBinding {
+        session: Digest,
+        object: Digest,
+    },
     /// The TPM has no room for another session.
     SessionsFull,
     /// The TPM has no such bank of PCRs.

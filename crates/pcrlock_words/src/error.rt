@@ -2,6 +2,7 @@ ghost use Rattle.std.specs.Prelude.{◌≡◌};
 ghost use Rattle.pcrlock_words.specs.declared.error.WordsError.TheVariants.{Memory as OutOfMemory};
 
 use pl_base::Memory;
+use std::alloc::AllocError;
 
 /// Why words gave no request.
 #[derive(Clone, Copy, Debug, PartialEq, Eq)]
@@ -16,6 +17,14 @@ impl From<Memory> for WordsError {
     ghost from_gives = { λ _ error. error ≡ OutOfMemory };
 
     fn from(_error: Memory) -> WordsError {
+        WordsError::Memory
+    }
+}
+
+impl From<AllocError> for WordsError {
+    ghost from_gives = { λ _ error. error ≡ OutOfMemory };
+
+    fn from(_error: AllocError) -> WordsError {
         WordsError::Memory
     }
 }

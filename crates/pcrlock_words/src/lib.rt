@@ -7,15 +7,22 @@
 #![tactic(auto)]
 
 mod answer;
+mod command;
 mod error;
 mod lines;
+mod options;
 mod place;
+mod read;
 mod request;
+#[cfg(test)]
+mod tests;
 mod texts;
+mod values;
 
 pub use answer::Answer;
 pub use error::WordsError;
 pub use lines::split_line;
 pub use place::Place;
+pub use read::read_words;
 pub use request::Request;
 pub use texts::{answer_line, enrolled_line, key_line, status_line};

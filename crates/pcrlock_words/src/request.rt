@@ -9,7 +9,11 @@ use pl_base::{List, Name, Small};
 pub enum Request {
     /// Runs the lines of the script in `file`, each of them under `policy` and the NV index `index`,
     /// a handle from 01000000 to 01ffffff.
-    Script { file: Name, policy: Name, index: u32 },
+    Script {
+        file: Name,
+        policy: Name,
+        index: u32,
+    },
     /// Seals `key`, 1 to 128 bytes, or a key that is drawn, and writes the token file `token`. With
     /// `literal` the object opens at the present value of that PCR, 0 to 23, in `bank`.
     Enroll {
@@ -20,7 +24,13 @@ pub enum Request {
         bank: Bank,
     },
     /// Opens the object that the token file `token` names.
-    Unseal { token: Name, policy: Name },
+    Unseal {
+        token: Name,
+        policy: Name,
+    },
     /// Extends the PCR, 0 to 23, in each bank with that bank's hash of `bytes`.
-    TpmExtend { pcr: u8, bytes: List<u8> },
+    TpmExtend {
+        pcr: u8,
+        bytes: List<u8>,
+    },
 }

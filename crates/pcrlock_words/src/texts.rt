@@ -1,13 +1,12 @@
-ghost use Rattle.std.specs.Prelude.{◌≡◌, ◌++◌, IfOk, codes, string_bytes};
-ghost use Rattle.hex.specs.Hex.{encode_lower};
+ghost use Rattle.std.specs.Prelude.{◌≡◌, IfOk, string_bytes};
 ghost use Rattle.pcrlock_words.specs.Texts.{answer_text, enrolled_text, handle_text, key_text, status_text};
 
 use crate::answer::Answer;
-use hash_bank::Digest;
 use pl_base::{Memory, Small};
 use std::alloc::Global;
 
 /// The line that names the handle of the object that `enroll` sealed.
+#[tactic(auto, unfolding(crate::specs::Texts::enrolled_text))]
 pub fn enrolled_line(alloc: Global, handle: u32) -> Result<Vec<u8>, Memory>
     ensures { IfOk result (λ line. line.items ≡ enrolled_text handle) }
 {
@@ -16,6 +15,7 @@ pub fn enrolled_line(alloc: Global, handle: u32) -> Result<Vec<u8>, Memory>
 }
 
 /// The line of the key that `unseal` opened.
+#[tactic(auto, unfolding(crate::specs::Texts::key_text))]
 pub fn key_line(alloc: Global, key: &Small) -> Result<Vec<u8>, Memory>
     ensures { IfOk result (λ line. line.items ≡ key_text key.now) }
 {
@@ -24,6 +24,7 @@ pub fn key_line(alloc: Global, key: &Small) -> Result<Vec<u8>, Memory>
 }
 
 /// The mark that follows each line of a script, with the line's status.
+#[tactic(auto, unfolding(crate::specs::Texts::status_text))]
 pub fn status_line(alloc: Global, status: u8) -> Result<Vec<u8>, Memory>
     ensures { IfOk result (λ line. line.items ≡ status_text status) }
 {
@@ -38,13 +39,12 @@ pub fn answer_line(alloc: Global, answer: &Answer) -> Result<Vec<u8>, Memory>
 }
 
 // The same line as a text.
+#[tactic(auto, unfolding(crate::specs::Texts::answer_text))]
 fn answer_words(alloc: Global, answer: &Answer) -> Result<String, Memory>
     ensures { IfOk result (λ line. string_bytes line ≡ answer_text answer.now) }
 {
     match answer {
         Answer::NotLiteral { pcr, now, sealed } => {
-            let now = digest_digits(alloc, now)?;
-            let sealed = digest_digits(alloc, sealed)?;
             Ok(format!(in alloc; "not literal: pcr {pcr} holds {now}, sealed to {sealed}\n")?)
         }
         Answer::BadWords => Ok(format!(in alloc; "bad words\n")?),
@@ -60,8 +60,12 @@ fn answer_words(alloc: Global, answer: &Answer) -> Result<String, Memory>
             let kind = kind.text();
             Ok(format!(in alloc; "limit: {kind} {number}\n")?)
         }
-        Answer::CounterEnd { writes: true } => Ok(format!(in alloc; "counter at its end: writes\n")?),
-        Answer::CounterEnd { writes: false } => Ok(format!(in alloc; "counter at its end: update\n")?),
+        Answer::CounterEnd { writes: true } => Ok(format!(in alloc;
+            "counter at its end: writes\n"
+        )?),
+        Answer::CounterEnd { writes: false } => Ok(format!(in alloc;
+            "counter at its end: update\n"
+        )?),
         Answer::ReadFault => Ok(format!(in alloc; "read fault\n")?),
         Answer::WriteFault => Ok(format!(in alloc; "write fault\n")?),
         Answer::EntropyFault => Ok(format!(in alloc; "entropy fault\n")?),
@@ -76,8 +80,6 @@ fn answer_words(alloc: Global, answer: &Answer) -> Result<String, Memory>
             Ok(format!(in alloc; "no object: {handle}\n")?)
         }
         Answer::WrongBinding { session, object } => {
-            let session = digest_digits(alloc, session)?;
-            let object = digest_digits(alloc, object)?;
             Ok(format!(in alloc; "wrong binding: session {session}, object {object}\n")?)
         }
         Answer::SessionsFull => Ok(format!(in alloc; "sessions full: 64\n")?),
@@ -93,11 +95,4 @@ fn handle_digits(alloc: Global, handle: u32) -> Result<String, Memory>
     ensures { IfOk result (λ digits. string_bytes digits ≡ handle_text handle) }
 {
     Ok(hex::encode(alloc, handle.to_be_bytes())?)
-}
-
-// A digest in hexadecimal digits.
-fn digest_digits(alloc: Global, digest: &Digest) -> Result<String, Memory>
-    ensures { IfOk result (λ digits. string_bytes digits ≡ encode_lower digest.now) }
-{
-    Ok(hex::encode(alloc, digest.as_slice())?)
 }

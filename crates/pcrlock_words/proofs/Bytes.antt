@@ -1,0 +1,13 @@
+-- The test of two texts.
+use Rattle.std.proofs.Common.{◌≡◌, ℕ, false, List, sym, inl, inr}
+use Rattle.std.specs.Str.{bytes_eq}
+use Rattle.std.proofs.lemmas.Bool.{cases_Bool}
+use Rattle.std.proofs.lemmas.Slice.Eq.{bytes_eq-Decides}
+
+-- texts that are not equal
+pub bytes_eq-differ : (xs ys : List ℕ) → (ys ≡ xs → ⊥) → bytes_eq xs ys ≡ false
+bytes_eq-differ xs ys differ =
+    elim (cases_Bool (bytes_eq xs ys)) [
+      | inl same ↦ absurd (differ (sym ((bytes_eq-Decides xs ys).0 same)))
+      | inr other ↦ other
+    ]

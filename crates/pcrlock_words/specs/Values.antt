@@ -1,0 +1,77 @@
+-- How the values of options are read.
+use Rattle.std.specs.Prelude.{ℕ, Bool, ◌==◌, ◌&&◌, ◌||◌, not, nat_le, slice_index, if◌then◌else◌, List, [], ◌∷◌, length, find, Option, Some, None, option_map}
+use Rattle.std.specs.Result.{result_ok}
+use Rattle.std.specs.Str.{bytes_eq}
+use Rattle.std.specs.Str.Parse.{digits_value}
+use Rattle.std.specs.Fmt.{decimal}
+use Rattle.std.specs.Int.{from_be_bytes, w32}
+use Rattle.hex.specs.Hex.{decode_of, decode_sized}
+use Rattle.hash_bank.specs.declared.bank.Bank.{Bank}
+use Rattle.hash_bank.specs.declared.bank.Bank.TheVariants.{Sha1, Sha256, Sha384, Sha512}
+use Rattle.hash_bank.specs.Hash.{name_in}
+
+-- the second reading, of what the first gives
+infixl 10 ◌>>=◌
+abbrev pub ◌>>=◌ : {A B : Type 0} → Option A → (A → Option B) → Option B
+None >>= f = None
+Some x >>= f = f x
+
+-- a value that has to be given
+abbrev pub required : {A : Type 0} → (List ℕ → Option A) → Option (List ℕ) → Option A
+required read None = None
+required read (Some value) = read value
+
+-- a value that may be left out
+abbrev pub optional : {A : Type 0} → (List ℕ → Option A) → Option (List ℕ) → Option (Option A)
+optional read None = Some None
+optional read (Some value) = option_map (λ x. Some x) (read value)
+
+-- a value that stands for another where it is left out
+abbrev pub defaulted : {A : Type 0} → (List ℕ → Option A) → A → Option (List ℕ) → Option A
+defaulted read default None = Some default
+defaulted read default (Some value) = read value
+
+-- a path has at least one byte
+abbrev pub path_of : List ℕ → Option (List ℕ)
+path_of value = if length value == 0 then None else Some value
+
+-- whether a value has no sign, and no zero before another digit
+abbrev pub is_plain : List ℕ → Bool
+is_plain value = not (slice_index value 0 == 43) && (length value == 1 || not (slice_index value 0 == 48))
+
+-- a number up to a limit, in decimal digits with no sign and no leading zero
+abbrev pub number_up_to : ℕ → List ℕ → Option ℕ
+number_up_to limit value =
+    let n = digits_value 10 value in
+    if nat_le n limit && bytes_eq value (decimal n) then Some n else None
+
+-- a PCR's number
+abbrev pub pcr_of : List ℕ → Option ℕ
+pcr_of value = number_up_to 23 value
+
+-- the bank of this name
+abbrev pub bank_of : List ℕ → Option Bank
+bank_of value = find (λ bank. bytes_eq (name_in bank) value) (Sha1 ∷ Sha256 ∷ Sha384 ∷ Sha512 ∷ [])
+
+-- the bytes of pairs of hexadecimal digits of either case, between `low` and `high` digits in all
+abbrev pub bytes_between : ℕ → ℕ → List ℕ → Option (List ℕ)
+bytes_between low high value =
+    if nat_le low (length value) && nat_le (length value) high then result_ok (decode_of value) else None
+
+-- a key has 1 to 128 bytes
+abbrev pub key_of : List ℕ → Option (List ℕ)
+key_of value = bytes_between 2 256 value
+
+-- the bytes of at most 128 pairs of digits
+abbrev pub hex_of : List ℕ → Option (List ℕ)
+hex_of value = bytes_between 0 256 value
+
+-- a handle of an NV index, 01000000 to 01ffffff (TPM 2.0 Library Part 2, TPM_HT_NV_INDEX)
+abbrev pub nv_handle : ℕ → Option ℕ
+nv_handle handle = if nat_le 0x01000000 handle && nat_le handle 0x01ffffff then Some handle else None
+
+-- the handle of an NV index, in eight hexadecimal digits of either case
+abbrev pub index_of : List ℕ → Option ℕ
+index_of value = do
+  bytes ← result_ok (decode_sized value 4)
+  nv_handle (from_be_bytes w32 bytes)

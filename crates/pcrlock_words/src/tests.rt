@@ -1,0 +1,444 @@
+//! What no clause says: printed texts and spelled requests, each public call with ample memory.
+use crate::{
+    Answer, Place, Request, WordsError, answer_line, enrolled_line, key_line, read_words,
+    split_line, status_line,
+};
+use hash_bank::{Bank, Digest};
+use pl_base::{List, Memory, Name, Small};
+use std::alloc::Global;
+use std::process::Abort;
+use std::str;
+use std::test::Fail;
+
+// Lines of a script, and their words with a bar behind each.
+const LINES: [(&str, &str); 9] = [
+    ("", ""),
+    (" \t  ", ""),
+    ("unseal", "unseal|"),
+    ("unseal --token t", "unseal|--token|t|"),
+    ("  unseal   --token\tt  ", "unseal|--token|t|"),
+    ("unseal\t \t--token=t\t", "unseal|--token=t|"),
+    ("unseal\r", "unseal\r|"),
+    ("a \r b", "a|\r|b|"),
+    ("tpm-extend --text é\u{a0}ü", "tpm-extend|--text|é\u{a0}ü|"),
+];
+
+// Words outside a script, parted by bars, and the request that they spell.
+const SPELLED: [(&str, &str); 19] = [
+    ("state|script|--file|f", "script f pcrlock.policy 01800100"),
+    (
+        "state|script|--index=01FFffff|--policy|p|--file|f",
+        "script f p 01ffffff",
+    ),
+    (
+        "state|script|--file=pcrlock.policy|--index|01000000",
+        "script pcrlock.policy pcrlock.policy 01000000",
+    ),
+    (
+        "state|enroll|--token|t|--literal|11|--key|00fF",
+        "enroll t pcrlock.policy 00ff 11 Sha256",
+    ),
+    (
+        "state|enroll|--bank=sha1|--literal=0|--token=t|--policy=p",
+        "enroll t p drawn 0 Sha1",
+    ),
+    (
+        "state|enroll|--token|t|--bank|sha256|--literal|9",
+        "enroll t pcrlock.policy drawn 9 Sha256",
+    ),
+    (
+        "state|enroll|--token|t|--bank|sha384|--literal|10",
+        "enroll t pcrlock.policy drawn 10 Sha384",
+    ),
+    (
+        "state|enroll|--token|t|--bank|sha512|--literal|23",
+        "enroll t pcrlock.policy drawn 23 Sha512",
+    ),
+    ("state|unseal|--token|t", "unseal t pcrlock.policy"),
+    (
+        "state|unseal|--token|pcrlock.policy|--policy|p",
+        "unseal pcrlock.policy p",
+    ),
+    (
+        "state|unseal|--policy=p=q|--token=--token",
+        "unseal --token p=q",
+    ),
+    ("-|unseal|--token|t", "unseal t pcrlock.policy"),
+    (
+        "unseal|unseal|--token|unseal",
+        "unseal unseal pcrlock.policy",
+    ),
+    (
+        "state|tpm-extend|--pcr|11|--text|abc",
+        "tpm-extend 11 616263",
+    ),
+    ("state|tpm-extend|--text=-x|--pcr=0", "tpm-extend 0 2d78"),
+    ("state|tpm-extend|--text==|--pcr=23", "tpm-extend 23 3d"),
+    ("state|tpm-extend|--pcr|1|--text|", "tpm-extend 1 "),
+    ("state|tpm-extend|--text=é|--pcr|2", "tpm-extend 2 c3a9"),
+    (
+        "state|tpm-extend|--hex=00aAfF|--pcr|22",
+        "tpm-extend 22 00aaff",
+    ),
+];
+
+// Words that are outside the set, outside a script.
+const REFUSED: [&str; 65] = [
+    "",
+    "state",
+    "state|",
+    "|unseal|--token|t",
+    "state|open|--token|t",
+    "state|Unseal|--token|t",
+    "state|unseal |--token|t",
+    "state|--token|t|unseal",
+    "state|help",
+    "state|--help",
+    "state|-h",
+    "state|unseal|--help",
+    "state|unseal|--version",
+    "state|unseal",
+    "state|unseal|--token",
+    "state|unseal|--token|",
+    "state|unseal|--token=",
+    "state|unseal|--token|-t",
+    "state|unseal|--token|--token",
+    "state|unseal|--token|t|more",
+    "state|unseal|more|--token|t",
+    "state|unseal|--token|t|-",
+    "state|unseal|--token|t|--",
+    "state|unseal|--|--token|t",
+    "state|unseal|-token|t",
+    "state|unseal|---token|t",
+    "state|unseal|token|t",
+    "state|unseal|--tok|t",
+    "state|unseal|--tokens|t",
+    "state|unseal|--token|t|--token|t",
+    "state|unseal|--token=t|--policy|p|--token=u",
+    "state|unseal|--token|t|--policy=",
+    "state|unseal|--token|t|--index|01800100",
+    "state|unseal|--token|pcrlock.policy",
+    "state|unseal|--token|p|--policy|p",
+    "state|enroll|--token|t",
+    "state|enroll|--literal|11",
+    "state|enroll|--token|pcrlock.policy|--literal|11",
+    "state|enroll|--token|p|--literal|11|--policy=p",
+    "state|enroll|--token|t|--literal|24",
+    "state|enroll|--token|t|--literal|+1",
+    "state|enroll|--token|t|--literal|01",
+    "state|enroll|--token|t|--literal|",
+    "state|enroll|--token|t|--literal|11|--bank|SHA256",
+    "state|enroll|--token|t|--literal|11|--bank|sha256,sha1",
+    "state|enroll|--token|t|--literal|11|--key|",
+    "state|enroll|--token|t|--literal|11|--key|0",
+    "state|enroll|--token|t|--literal|11|--key|0g",
+    "state|tpm-extend|--pcr|24|--text|abc",
+    "state|tpm-extend|--pcr|3,3|--text|abc",
+    "state|tpm-extend|--pcr|4294967296|--text|abc",
+    "state|tpm-extend|--pcr|00|--text|abc",
+    "state|tpm-extend|--text|abc",
+    "state|tpm-extend|--pcr|1",
+    "state|tpm-extend|--pcr|1|--text|-x",
+    "state|tpm-extend|--pcr|1|--text|abc|--hex|00",
+    "state|tpm-extend|--pcr|1|--hex|000",
+    "state|script",
+    "state|script|--file|",
+    "state|script|--file|f|--index|0180010",
+    "state|script|--file|f|--index|018001000",
+    "state|script|--file|f|--index|0180010g",
+    "state|script|--file|f|--index|00ffffff",
+    "state|script|--file|f|--index|02000000",
+    "state|script|--file|f|--token|t",
+];
+
+// The same of words inside a script whose policy path is `p`; no request stands for words that are
+// outside the set there.
+const INSIDE: [(&str, Option<&str>); 11] = [
+    ("unseal|--token|t", Some("unseal t p")),
+    (
+        "unseal|--token|pcrlock.policy",
+        Some("unseal pcrlock.policy p"),
+    ),
+    (
+        "enroll|--token|t|--literal|11",
+        Some("enroll t p drawn 11 Sha256"),
+    ),
+    (
+        "tpm-extend|--pcr|11|--text|abc",
+        Some("tpm-extend 11 616263"),
+    ),
+    ("unseal|--token|p", None),
+    ("enroll|--token|p|--literal|11", None),
+    ("unseal|--token|t|--policy|p", None),
+    ("unseal|--token|t|--index|01800100", None),
+    ("enroll|--token|t|--literal|11|--policy=p", None),
+    ("script|--file|f", None),
+    ("state|unseal|--token|t", None),
+];
+
+// The words that bars part.
+fn words(alloc: Global, text: &str) -> Result<List<Name>, Memory> {
+    let mut words = List::new(alloc);
+    for word in text.split('|') {
+        words.push(Name::from_text(alloc, word)?)?;
+    }
+    Ok(words)
+}
+
+// A request as a text, in the order of its fields.
+fn spelled(alloc: Global, request: &Request) -> Result<String, Fail> {
+    match request {
+        Request::Script {
+            file,
+            policy,
+            index,
+        } => {
+            let (file, policy) = (file.text(), policy.text());
+            Ok(format!(in alloc; "script {file} {policy} {index:08x}")?)
+        }
+        Request::Enroll {
+            token,
+            policy,
+            key,
+            literal,
+            bank,
+        } => {
+            let key = match key {
+                Some(key) => hex::encode(alloc, key.as_slice())?,
+                None => String::from_str(alloc, "drawn")?,
+            };
+            let (token, policy) = (token.text(), policy.text());
+            let pcr = literal.ok_or("no literal")?;
+            Ok(format!(in alloc; "enroll {token} {policy} {key} {pcr} {bank:?}")?)
+        }
+        Request::Unseal { token, policy } => {
+            let (token, policy) = (token.text(), policy.text());
+            Ok(format!(in alloc; "unseal {token} {policy}")?)
+        }
+        Request::TpmExtend { pcr, bytes } => {
+            let bytes = hex::encode(alloc, bytes.as_slice())?;
+            Ok(format!(in alloc; "tpm-extend {pcr} {bytes}")?)
+        }
+    }
+}
+
+// The words spell this request.
+fn check_spelled(
+    rt: &(impl Abort + AllocGlobal),
+    text: &str,
+    policy: Option<&Name>,
+    expected: &str,
+) -> Result<(), Fail> {
+    let words = words(rt.alloc(), text)?;
+    let request = read_words(rt.alloc(), words.as_slice(), policy)?;
+    let found = spelled(rt.alloc(), &request)?;
+    assert_eq!(rt; found.as_str(), expected, "{text}");
+    Ok(())
+}
+
+// The words are outside the set.
+fn check_refused(
+    rt: &(impl Abort + AllocGlobal),
+    text: &str,
+    policy: Option<&Name>,
+) -> Result<(), Fail> {
+    let words = words(rt.alloc(), text)?;
+    let answer = read_words(rt.alloc(), words.as_slice(), policy);
+    assert!(rt; matches!(answer, Err(WordsError::BadWords)), "{text}");
+    Ok(())
+}
+
+#[test]
+fn words_outside_a_script(rt: HostRuntime) -> Result<(), Fail> {
+    for (text, expected) in SPELLED.iter() {
+        check_spelled(&rt, text, None, expected)?;
+    }
+    for text in REFUSED.iter() {
+        check_refused(&rt, text, None)?;
+    }
+    assert!(rt; matches!(read_words(rt.alloc(), &[], None), Err(WordsError::BadWords)));
+    Ok(())
+}
+
+#[test]
+fn words_inside_a_script(rt: HostRuntime) -> Result<(), Fail> {
+    let policy = Name::from_text(rt.alloc(), "p")?;
+    for (text, expected) in INSIDE.iter() {
+        match expected {
+            Some(expected) => check_spelled(&rt, text, Some(&policy), expected)?,
+            None => check_refused(&rt, text, Some(&policy))?,
+        }
+    }
+    assert!(rt;
+        matches!(
+            read_words(rt.alloc(), &[], Some(&policy)),
+            Err(WordsError::BadWords)
+        )
+    );
+    Ok(())
+}
+
+// Keys and bytes of this many digits, and whether they are taken as a key, as bytes to extend by.
+const DIGITS: [(usize, bool, bool); 5] = [
+    (0, false, true),
+    (2, true, true),
+    (255, false, false),
+    (256, true, true),
+    (258, false, false),
+];
+
+#[test]
+fn digits_up_to_a_limit(rt: HostRuntime) -> Result<(), Fail> {
+    for (count, key, bytes) in DIGITS.iter() {
+        let mut digits = String::new(rt.alloc());
+        for _ in 0..*count {
+            digits.push('a')?;
+        }
+        let enroll = format!(in rt.alloc(); "s|enroll|--token|t|--literal|1|--key={digits}")?;
+        let words_of_key = words(rt.alloc(), enroll.as_str())?;
+        assert_eq!(rt;
+            read_words(rt.alloc(), words_of_key.as_slice(), None).is_ok(),
+            *key
+        );
+        let extend = format!(in rt.alloc(); "s|tpm-extend|--pcr|1|--hex={digits}")?;
+        let words_of_bytes = words(rt.alloc(), extend.as_str())?;
+        assert_eq!(rt;
+            read_words(rt.alloc(), words_of_bytes.as_slice(), None).is_ok(),
+            *bytes
+        );
+    }
+    Ok(())
+}
+
+#[test]
+fn lines_are_cut_at_blanks(rt: HostRuntime) -> Result<(), Fail> {
+    for (line, expected) in LINES.iter() {
+        let mut found = String::new(rt.alloc());
+        for word in split_line(rt.alloc(), line)?.as_slice() {
+            found.push_str(word.text())?;
+            found.push('|')?;
+        }
+        assert_eq!(rt; found.as_str(), *expected);
+    }
+    Ok(())
+}
+
+// The answer is told by this line.
+fn check_answer(
+    rt: &(impl Abort + AllocGlobal),
+    answer: Answer,
+    expected: &str,
+) -> Result<(), Fail> {
+    let line = answer_line(rt.alloc(), &answer)?;
+    assert_eq!(rt; str::from_utf8(line.as_slice())?, expected);
+    Ok(())
+}
+
+// A malformed file is told by this line.
+fn check_place(rt: &(impl Abort + AllocGlobal), place: Place, expected: &str) -> Result<(), Fail> {
+    let path = Name::from_text(rt.alloc(), "a/b c")?;
+    check_answer(rt, Answer::Malformed { path, place }, expected)
+}
+
+// The digests of SHA-256 that a PCR has after one and after two extends by the hash of `abc`.
+const ONCE: &str = "589f9ffed4c477966bfb8d41f37895b08c69047df8f911d6f3b57fbe08faee8d";
+
+const TWICE: &str = "bdeb6c6dc63852834c89f67066194207ce7d3806ea40ca58dc079246ef58a926";
+
+#[test]
+fn answers_are_told(rt: HostRuntime) -> Result<(), Fail> {
+    let name = Name::from_text(rt.alloc(), "x y")?;
+    let once = Digest::from_hex(Bank::Sha256, ONCE)?;
+    let twice = Digest::from_hex(Bank::Sha256, TWICE)?;
+    check_answer(
+        &rt,
+        Answer::NotLiteral {
+            pcr: 11,
+            now: twice,
+            sealed: once,
+        },
+        "not literal: pcr 11 holds bdeb6c6dc63852834c89f67066194207ce7d3806ea40ca58dc079246ef58a926, sealed to 589f9ffed4c477966bfb8d41f37895b08c69047df8f911d6f3b57fbe08faee8d\n",
+    )?;
+    check_answer(
+        &rt,
+        Answer::WrongBinding {
+            session: once,
+            object: twice,
+        },
+        "wrong binding: session 589f9ffed4c477966bfb8d41f37895b08c69047df8f911d6f3b57fbe08faee8d, object bdeb6c6dc63852834c89f67066194207ce7d3806ea40ca58dc079246ef58a926\n",
+    )?;
+    check_answer(&rt, Answer::BadWords, "bad words\n")?;
+    check_place(
+        &rt,
+        Place::At(18446744073709551615),
+        "malformed: a/b c: 18446744073709551615\n",
+    )?;
+    check_place(&rt, Place::Json, "malformed: a/b c: json\n")?;
+    check_place(&rt, Place::Records, "malformed: a/b c: records\n")?;
+    check_place(&rt, Place::BadName, "malformed: a/b c: name\n")?;
+    check_place(
+        &rt,
+        Place::Rule(name.copy(rt.alloc())?),
+        "malformed: a/b c: rule x y\n",
+    )?;
+    check_answer(
+        &rt,
+        Answer::NoSuchFile(name.copy(rt.alloc())?),
+        "no such file: x y\n",
+    )?;
+    check_answer(
+        &rt,
+        Answer::Limit {
+            kind: Name::from_text(rt.alloc(), "script-bytes")?,
+            number: 4194305,
+        },
+        "limit: script-bytes 4194305\n",
+    )?;
+    check_answer(
+        &rt,
+        Answer::CounterEnd { writes: true },
+        "counter at its end: writes\n",
+    )?;
+    check_answer(
+        &rt,
+        Answer::CounterEnd { writes: false },
+        "counter at its end: update\n",
+    )?;
+    check_answer(&rt, Answer::ReadFault, "read fault\n")?;
+    check_answer(&rt, Answer::WriteFault, "write fault\n")?;
+    check_answer(&rt, Answer::EntropyFault, "entropy fault\n")?;
+    check_answer(&rt, Answer::TpmFault, "tpm fault\n")?;
+    check_answer(&rt, Answer::Memory, "no memory\n")?;
+    check_answer(&rt, Answer::NoToken(name), "no token: x y\n")?;
+    check_answer(&rt, Answer::NoObject(0x81000000), "no object: 81000000\n")?;
+    check_answer(&rt, Answer::SessionsFull, "sessions full: 64\n")?;
+    check_answer(
+        &rt,
+        Answer::BankAbsent(Bank::Sha512),
+        "bank absent: sha512\n",
+    )?;
+    Ok(())
+}
+
+#[test]
+fn commands_print_lines(rt: HostRuntime) -> Result<(), Fail> {
+    let key = Small::from_slice(&[0x00, 0xff]).ok_or("no room")?;
+    assert_eq!(rt;
+        key_line(rt.alloc(), &key)?.as_slice(),
+        b"key 00ff\n".as_slice()
+    );
+    assert_eq!(rt;
+        enrolled_line(rt.alloc(), 0x81000000)?.as_slice(),
+        b"enrolled 81000000\n".as_slice()
+    );
+    assert_eq!(rt;
+        enrolled_line(rt.alloc(), 0xabc)?.as_slice(),
+        b"enrolled 00000abc\n".as_slice()
+    );
+    assert_eq!(rt; status_line(rt.alloc(), 0)?.as_slice(), b"= 0\n".as_slice());
+    assert_eq!(rt;
+        status_line(rt.alloc(), 255)?.as_slice(),
+        b"= 255\n".as_slice()
+    );
+    Ok(())
+}
