@@ -37,7 +37,10 @@ then_stops a b c first second stop h k e = record {
 pub stops : {A D : Type 0} (a b : Counts) (first : Result A Stop) (stop : Stop)
     → HasCauses a b first → first ≡ Err stop → HasCauses {A = D} a b (Err stop)
 stops a b first stop h e = record {
-  files = h.files; entropy = h.entropy; tpm = h.tpm; out = h.out;
+  files = h.files;
+  entropy = h.entropy;
+  tpm = h.tpm;
+  out = h.out;
   cause = λ other same. h.cause other (let same_stop : stop ≡ other = cc in cc);
 }
 

@@ -20,7 +20,12 @@ pub enum Found {
 }
 
 /// What stands at the path, where at most `limit` bytes are allowed. The files stay as they are.
-pub fn read_file<F: Files>(alloc: Global, files: &mut F, path: &str, limit: u64) -> Result<Found, Stop>
+pub fn read_file<F: Files>(
+    alloc: Global,
+    files: &mut F,
+    path: &str,
+    limit: u64,
+) -> Result<Found, Stop>
     ensures causes { HasCauses (F.faults files.old, 0, 0, 0) (F.faults files.new, 0, 0, 0) result }
     ensures told { (held : FileMap) → F.held files.old ≡ Some held → IfOk result (λ found. content_found found ≡ content_of held path.now limit) }
     ensures same { F.held files.new ≡ F.held files.old }

@@ -41,7 +41,7 @@ goes pcr bytes m = record { ending = Fine []; after = record m { state = extende
 -- the next state of the TPM is that of the machine afterwards, whether or not the counter is at its end
 next_by : (m : Machine) (pcr : ℕ) (digests : Digests) (bytes : List ℕ) (last : Bool) → AreHashes digests bytes
     → (cond {A = Response × Parts} last (answer.Refused (refusal.CounterEnd counter.Update), m.state)
-        (answer.Done, record m.state { pcrs = after_extend m.state.banks pcr digests m.state.pcrs; update_counter = m.state.update_counter + 1 })).1
+    (answer.Done, record m.state { pcrs = after_extend m.state.banks pcr digests m.state.pcrs; update_counter = m.state.update_counter + 1 })).1
     ≡ (cond {A = Outcome} last (ends m) (goes pcr bytes m)).after.state
 next_by m pcr digests bytes true h = refl
 next_by m pcr digests bytes false h = ap (λ values. record m.state { pcrs = values; update_counter = m.state.update_counter + 1 }) (same_values m.state pcr digests bytes h)

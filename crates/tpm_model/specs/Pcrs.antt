@@ -56,7 +56,7 @@ extended_in banks pcr digest bank pcrs =
 abbrev pub after_digests : Banks → ℕ → Option (List ℕ) → Option (List ℕ) → Option (List ℕ) → Option (List ℕ) → List (List ℕ) → List (List ℕ)
 after_digests banks pcr sha1 sha256 sha384 sha512 pcrs =
     extended_in banks pcr sha512 Sha512 (extended_in banks pcr sha384 Sha384
-        (extended_in banks pcr sha256 Sha256 (extended_in banks pcr sha1 Sha1 pcrs)))
+    (extended_in banks pcr sha256 Sha256 (extended_in banks pcr sha1 Sha1 pcrs)))
 
 -- the values after an extend of one PCR in each present bank with a digest
 abbrev pub after_extend : Banks → ℕ → Digests → List (List ℕ) → List (List ℕ)

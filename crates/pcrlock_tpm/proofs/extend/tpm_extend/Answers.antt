@@ -10,5 +10,5 @@ pub returns-in-Err-clause-stops : goal.returns-in-Err-clause-stops
 returns-in-Err-clause-stops g c = λ held words m tells.
     let told = c.in_ok-ready.ensures.told m.state tells.state in
     extend_stops held (g.T.Tpm.stored c.args.tpm.now) (g.T.Tpm.stored c.ask.new.tpm) words m c.args.pcr c.hash_all.result c.args.bytes.now
-      c.requires c.hash_all.ensures tells
-      (c.in-Err.ensures.stops m.state told.1 (c.ready.ensures.same ∙ tells.state))
+    c.requires c.hash_all.ensures tells
+    (c.in-Err.ensures.stops m.state told.1 (c.ready.ensures.same ∙ tells.state))
