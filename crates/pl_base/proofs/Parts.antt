@@ -53,7 +53,8 @@ same_part (byte ∷ first) [] x y p q e =
     let head : slash ≡ byte = cc in let f : nat_eq slash byte ≡ true = eq-eqb slash byte head in let g : nat_eq slash byte ≡ false = (or_false _ _ p).0 in absurd (cc)
 same_part (byte ∷ first) (other ∷ second) x y p q e =
     let head : byte ≡ other = cc in let tail : first ++ slash ∷ x ≡ second ++ slash ∷ y = cc in
-    let rest : first ≡ second = same_part first second x y (or_false _ _ p).1 (or_false _ _ q).1 tail in cc
+    let rest : first ≡ second = same_part first second x y (or_false (nat_eq slash byte) _ p).1 (or_false (nat_eq slash other) _ q).1 tail in
+    cc
 
 starts_below : List ℕ → List ℕ → List ℕ → Bool
 starts_below path name held = starts_with nat_eq held (path_below path name ++ slash ∷ [])

@@ -68,3 +68,30 @@ impl Entropy for ListEntropy {
         }
     }
 }
+
+#[cfg(test)]
+mod tests {
+    use super::*;
+    use std::test::Fail as TestFail;
+
+    /// Words come in order. The failing call takes none, and each call past the end fails.
+    #[test]
+    fn gives_words_in_order(rt: HostRuntime) -> Result<(), TestFail> {
+        let alloc = rt.alloc();
+        let mut words = List::new(alloc);
+        words.push([7; 32])?;
+        words.push([9; 32])?;
+        let mut fails = List::new(alloc);
+        fails.push(Fail {
+            call: 1,
+            done: true,
+        })?;
+        let mut source = ListEntropy::new(words, fails);
+        assert_eq!(rt; source.fill32(), Ok([7; 32]));
+        assert_eq!(rt; source.fill32(), Err(Failed));
+        assert_eq!(rt; source.fill32(), Ok([9; 32]));
+        assert_eq!(rt; source.fill32(), Err(Failed));
+        assert_eq!(rt; source.fill32(), Err(Failed));
+        Ok(())
+    }
+}

@@ -202,3 +202,71 @@ impl Files for MemFiles {
         }
     }
 }
+
+#[cfg(test)]
+mod tests {
+    use super::*;
+    use std::test::Fail as TestFail;
+
+    fn files_with(alloc: Global, call: u64, done: bool) -> Result<MemFiles, Memory> {
+        let mut fails = List::new(alloc);
+        fails.push(Fail { call, done })?;
+        let mut files = MemFiles::new(alloc, fails);
+        for path in ["d/a/x", "d/a/y/z", "d/a-b", "d/b", "d//c", "d", "dd/e"] {
+            files.put(path, path.as_bytes())?;
+        }
+        Ok(files)
+    }
+
+    /// Names come in their own order, which isn't that of the paths, and a folder once.
+    #[test]
+    fn lists_what_is_below(rt: HostRuntime) -> Result<(), TestFail> {
+        let alloc = rt.alloc();
+        let mut files = files_with(alloc, 3, false)?;
+        let listed = files.list(alloc, "d", 3)?;
+        assert_eq!(rt; listed.len(), 3);
+        let expected = [("a", true), ("a-b", false), ("b", false)];
+        for (entry, (name, folder)) in listed.as_slice().iter().zip(expected) {
+            assert_eq!(rt; entry.name.text(), name);
+            assert_eq!(rt; entry.folder, folder);
+        }
+        assert_eq!(rt; files.list(alloc, "d", 2).err(), Some(ListError::TooMany));
+        assert_eq!(rt; files.list(alloc, "d/b", 9).err(), Some(ListError::Missing));
+        assert_eq!(rt; files.list(alloc, "d", 9).err(), Some(ListError::Failed));
+        Ok(())
+    }
+
+    /// A read, a replacement and a removal, of which the one of a number fails.
+    #[test]
+    fn keeps_what_was_set(rt: HostRuntime) -> Result<(), TestFail> {
+        let alloc = rt.alloc();
+        let cases = [
+            (9, false, true, true),
+            (1, false, false, true),
+            (1, true, true, true),
+            (2, false, true, false),
+            (2, true, true, true),
+        ];
+        for (call, done, replaced, removed) in cases {
+            let mut files = files_with(alloc, call, done)?;
+            assert_eq!(rt;
+                files.read(alloc, "d/b", 2).err(),
+                Some(ReadError::TooLarge(3))
+            );
+            assert_eq!(rt; files.replace(alloc, "d/b", b"new").is_err(), call == 1);
+            assert_eq!(rt; files.remove(alloc, "d/a/x").is_err(), call == 2);
+            let text: &[u8] = if replaced { b"new" } else { b"d/b" };
+            assert_eq!(rt; files.get("d/b"), Some(text));
+            assert_eq!(rt; files.get("d/a/x").is_none(), removed);
+            assert_eq!(rt;
+                files.remove(alloc, "none").err(),
+                Some(RemoveError::Missing)
+            );
+            assert_eq!(rt;
+                files.read(alloc, "none", 2).err(),
+                Some(ReadError::Missing)
+            );
+        }
+        Ok(())
+    }
+}

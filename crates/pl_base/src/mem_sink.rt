@@ -75,3 +75,35 @@ impl Sink for MemSink {
         }
     }
 }
+
+#[cfg(test)]
+mod tests {
+    use super::*;
+    use std::test::Fail as TestFail;
+
+    /// Three writes, of which the one of a number fails, before or after it took effect.
+    #[test]
+    fn keeps_what_was_written(rt: HostRuntime) -> Result<(), TestFail> {
+        let alloc = rt.alloc();
+        let cases = [
+            (9, false, "abc"),
+            (0, false, "c"),
+            (0, true, "abc"),
+            (1, true, "abc"),
+            (2, false, "ab"),
+            (2, true, "abc"),
+        ];
+        for (call, done, expected) in cases {
+            let mut fails = List::new(alloc);
+            fails.push(Fail { call, done })?;
+            let mut sink = MemSink::new(alloc, fails);
+            for (number, text) in [(0, "ab"), (1, ""), (2, "c")] {
+                let outcome = sink.write_all(alloc, text.as_bytes());
+                let failed = outcome == Err(SinkError::Failed);
+                assert_eq!(rt; failed, number == call);
+            }
+            assert_eq!(rt; sink.bytes(), expected.as_bytes());
+        }
+        Ok(())
+    }
+}
