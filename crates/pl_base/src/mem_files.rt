@@ -1,4 +1,4 @@
-ghost use Rattle.std.specs.Prelude.{◌≡◌, ◌≢◌, Option, Some, None, [], Err, Ok, IsOk, IfSome, MatchResult, option_copied, MatchBool, ℕ, List as Sequence, if◌then◌else◌};
+ghost use Rattle.std.specs.Prelude.{◌≡◌, ◌≢◌, ◌⊎◌, Option, Some, None, IsSome, [], Err, Ok, IsOk, IfSome, MatchResult, option_copied, MatchBool, ℕ, List as Sequence, if◌then◌else◌};
 ghost use Rattle.std.specs.FinMap.{empty, get, insert, remove};
 ghost use Rattle.pl_base.specs.Calls.{planned, FollowsPlan};
 ghost use Rattle.pl_base.specs.FileAnswers.{ReadGives, IsBounded, ListGives, IsShort, ReplaceLeaves, RemoveLeaves};
@@ -138,6 +138,7 @@ impl Files for MemFiles {
         ensures told { (files : FileMap) → Some self.old.held ≡ Some files → ReadGives (get files path.now) limit result }
         ensures same { Some self.new.held ≡ Some self.old.held }
         ensures plan { FollowsPlan self.old.calls self.new.calls (result ≡ Err ReadError.Failed) (IsOk result) }
+        ensures each { IsSome (planned self.old.calls) → result ≡ Err ReadError.Failed }
     {
         if self.schedule.next_call().is_some() {
             self.schedule.fault();
@@ -152,6 +153,7 @@ impl Files for MemFiles {
         ensures told { (files : FileMap) → Some self.old.held ≡ Some files → ListGives files path.now limit result }
         ensures same { Some self.new.held ≡ Some self.old.held }
         ensures plan { FollowsPlan self.old.calls self.new.calls (result ≡ Err ListError.Failed) (IsOk result) }
+        ensures each { IsSome (planned self.old.calls) → result ≡ Err ListError.Failed }
     {
         if self.schedule.next_call().is_some() {
             self.schedule.fault();
@@ -164,6 +166,7 @@ impl Files for MemFiles {
         ensures cause { HasCause self.old.calls.faults self.new.calls.faults (result ≡ Err ReplaceError.Failed) }
         ensures told { (files : FileMap) → Some self.old.held ≡ Some files → ReplaceLeaves files (insert files path.now bytes.now) result (Some self.new.held) }
         ensures plan { FollowsPlan self.old.calls self.new.calls (result ≡ Err ReplaceError.Failed) (IsOk result) }
+        ensures each { IsSome (planned self.old.calls) → (result ≡ Err ReplaceError.Failed) ⊎ (result ≡ Err ReplaceError.Memory) }
         ensures done { IfSome (planned self.old.calls) (λ fail. result ≡ Err ReplaceError.Failed → self.new.held ≡ (if fail.done then insert self.old.held path.now bytes.now else self.old.held)) }
     {
         match self.schedule.next_call() {
@@ -182,6 +185,7 @@ impl Files for MemFiles {
         ensures cause { HasCause self.old.calls.faults self.new.calls.faults (result ≡ Err RemoveError.Failed) }
         ensures told { (files : FileMap) → Some self.old.held ≡ Some files → RemoveLeaves files path.now result (Some self.new.held) }
         ensures plan { FollowsPlan self.old.calls self.new.calls (result ≡ Err RemoveError.Failed) (IsOk result) }
+        ensures each { IsSome (planned self.old.calls) → result ≡ Err RemoveError.Failed }
         ensures done { IfSome (planned self.old.calls) (λ fail. result ≡ Err RemoveError.Failed → self.new.held ≡ (if fail.done then remove self.old.held path.now else self.old.held)) }
     {
         match self.schedule.next_call() {

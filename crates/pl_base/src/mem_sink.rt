@@ -1,4 +1,4 @@
-ghost use Rattle.std.specs.Prelude.{◌≡◌, ℕ, Option, Some, List as Sequence, [], ◌++◌, Err, IsOk, IfSome, MatchResult, if◌then◌else◌};
+ghost use Rattle.std.specs.Prelude.{◌≡◌, ◌⊎◌, IsSome, ℕ, Option, Some, List as Sequence, [], ◌++◌, Err, IsOk, IfSome, MatchResult, if◌then◌else◌};
 ghost use Rattle.pl_base.specs.Calls.{planned, FollowsPlan};
 ghost use Rattle.pl_base.specs.Faults.{HasCause};
 ghost use Rattle.pl_base.specs.Written.{WriteLeaves};
@@ -61,6 +61,7 @@ impl Sink for MemSink {
         ensures cause { HasCause self.old.calls.faults self.new.calls.faults (result ≡ Err SinkError.Failed) }
         ensures told { (before : Sequence ℕ) → Some self.old.written ≡ Some before → WriteLeaves before bytes.now result (Some self.new.written) }
         ensures plan { FollowsPlan self.old.calls self.new.calls (result ≡ Err SinkError.Failed) (IsOk result) }
+        ensures each { IsSome (planned self.old.calls) → (result ≡ Err SinkError.Failed) ⊎ (result ≡ Err SinkError.Memory) }
         ensures done { IfSome (planned self.old.calls) (λ fail. result ≡ Err SinkError.Failed → self.new.written ≡ (if fail.done then self.old.written ++ bytes.now else self.old.written)) }
     {
         match self.schedule.next_call() {

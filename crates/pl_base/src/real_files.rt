@@ -12,7 +12,7 @@ use std::{fs, io, rt};
 /// Who may read and write a file that is made: its owner alone, since a file may hold keys.
 const OWNER_ONLY: u32 = 0o600;
 
-/// The files of the system. It tells nothing of them.
+/// The files of the system. It tells nothing of them, and counts each answer that is an error.
 #[derive(Drop)]
 pub struct RealFiles<R> {
     files: R,
