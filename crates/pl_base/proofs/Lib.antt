@@ -1,3 +1,4 @@
 pub mod HeldFiles
 pub mod Parts
 pub mod Listed
+pub mod Below

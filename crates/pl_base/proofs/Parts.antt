@@ -1,5 +1,5 @@
 -- What one held path tells of the names below a path.
-use Rattle.std.proofs.Common.{◌≡◌, ◌≢◌, ℕ, zero, suc, ◌+◌, ◌<◌, Bool, true, false, cond, not, ◌&&◌, ◌||◌, List, [], ◌∷◌, ◌++◌, length, get_or, drop, nat_eq, refl, sym, ap, ◌∙◌, subst, arith, append_assoc}
+use Rattle.std.proofs.Common.{◌≡◌, ◌≢◌, ℕ, suc, ◌<◌, Bool, true, false, cond, not, ◌&&◌, ◌||◌, List, [], ◌∷◌, ◌++◌, length, get_or, nat_eq, refl, sym, ap, ◌∙◌, arith, append_assoc}
 use Rattle.std.specs.Prelude.{Option, None, Some, if◌then◌else◌}
 use Rattle.std.specs.List.{starts_with, list_any}
 use Rattle.std.specs.Str.{bytes_eq}
@@ -8,7 +8,6 @@ use Rattle.std.proofs.lemmas.Bool.{false_from_ne_true, ne_eqb, eq-eqb}
 use Rattle.std.proofs.lemmas.Bool.Decides.{Decides-eqb}
 use Rattle.std.proofs.lemmas.List.{append_cancel_left}
 use Rattle.std.proofs.lemmas.Slice.Eq.{bytes_eq-Decides, starts_is}
-use Rattle.std.specs.Ordering.{nat_cmp}
 use Rattle.std.specs.BTreeMap.{BTreeMap, UpdatesBy, get_by_text}
 use Rattle.std.specs.String.{string_cmp, string_bytes}
 use Rattle.std.specs.declared.alloc.Global.{Global}
@@ -53,7 +52,8 @@ same_part (byte ∷ first) [] x y p q e =
     let head : slash ≡ byte = cc in let f : nat_eq slash byte ≡ true = eq-eqb slash byte head in let g : nat_eq slash byte ≡ false = (or_false _ _ p).0 in absurd (cc)
 same_part (byte ∷ first) (other ∷ second) x y p q e =
     let head : byte ≡ other = cc in let tail : first ++ slash ∷ x ≡ second ++ slash ∷ y = cc in
-    let rest : first ≡ second = same_part first second x y (or_false _ _ p).1 (or_false _ _ q).1 tail in cc
+    let rest : first ≡ second = same_part first second x y (or_false (nat_eq slash byte) _ p).1 (or_false (nat_eq slash other) _ q).1 tail in
+    cc
 
 starts_below : List ℕ → List ℕ → List ℕ → Bool
 starts_below path name held = starts_with nat_eq held (path_below path name ++ slash ∷ [])

@@ -1,6 +1,6 @@
 -- What the calls on files answer, and what they leave, where the files tell their map.
-use Rattle.std.specs.Prelude.{◌≡◌, ◌⊎◌, ◌<◌, ◌≤◌, ◌↔◌, ℕ, Bool, true, false, List as Sequence, [], length, map, Contains, Option, None, Some, Result, Ok, Err}
-use Rattle.std.specs.FinMap.{FinMap, get, insert, remove}
+use Rattle.std.specs.Prelude.{◌≡◌, ◌⊎◌, ◌<◌, ◌≤◌, ℕ, true, List as Sequence, [], length, map, Contains, Option, None, Some, Result, Ok, Err}
+use Rattle.std.specs.FinMap.{get, remove}
 use Rattle.std.specs.Ordering.{nat_cmp}
 use Rattle.std.specs.Cmp.Lexicographic.{slice_cmp}
 use Rattle.std.specs.List.Sorted.{IsStrictlySortedBy}

@@ -58,6 +58,7 @@ impl Entropy for ListEntropy {
         ensures cause { HasCause self.old.calls.faults self.new.calls.faults (result ≡ Err record {}) }
         ensures told { (before : Sequence (Sequence ℕ)) → Some self.old.words ≡ Some before → DrawLeaves before result (Some self.new.words) }
         ensures plan { FollowsPlan self.old.calls self.new.calls ((result ≡ Err record {}) × (0 < length self.old.words)) (IsOk result) }
+        ensures each { IsSome (planned self.old.calls) → result ≡ Err record {} }
     {
         match self.draw() {
             Some(word) => Ok(word),
@@ -66,5 +67,32 @@ impl Entropy for ListEntropy {
                 Err(Failed)
             }
         }
+    }
+}
+
+#[cfg(test)]
+mod tests {
+    use super::*;
+    use std::test::Fail as TestFail;
+
+    /// Words come in order. The failing call takes none, and each call past the end fails.
+    #[test]
+    fn gives_words_in_order(rt: HostRuntime) -> Result<(), TestFail> {
+        let alloc = rt.alloc();
+        let mut words = List::new(alloc);
+        words.push([7; 32])?;
+        words.push([9; 32])?;
+        let mut fails = List::new(alloc);
+        fails.push(Fail {
+            call: 1,
+            done: true,
+        })?;
+        let mut source = ListEntropy::new(words, fails);
+        assert_eq!(rt; source.fill32(), Ok([7; 32]));
+        assert_eq!(rt; source.fill32(), Err(Failed));
+        assert_eq!(rt; source.fill32(), Ok([9; 32]));
+        assert_eq!(rt; source.fill32(), Err(Failed));
+        assert_eq!(rt; source.fill32(), Err(Failed));
+        Ok(())
     }
 }

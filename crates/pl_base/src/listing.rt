@@ -1,7 +1,7 @@
-//! What stands directly below a path, found in one pass over the paths that are held. Names are
+//! What stands directly below a path, found in one pass over the paths below it. Names are
 //! collected in a map, as their order isn't that of the paths: `a/b` stands behind `a-b`, and `a`
 //! before it.
-ghost use Rattle.std.specs.Prelude.{◌≡◌, ◌≢◌, ◌++◌, ◌∷◌, [], ℕ, List as Sequence, Bool, false, true, cond, Option, None, Some, Ok, Err, MatchOption, IfOk, length, if◌then◌else◌};
+ghost use Rattle.std.specs.Prelude.{◌≡◌, ◌≢◌, ◌++◌, ◌∷◌, [], ℕ, List as Sequence, Bool, string_bytes, ◌<◌, false, true, cond, Option, None, Some, Ok, Err, MatchOption, IfOk, length, if◌then◌else◌};
 ghost use Rattle.std.specs.List.{list_any};
 ghost use Rattle.std.specs.Prelude.{nat_eq};
 ghost use Rattle.std.specs.Str.{bytes_eq};
@@ -14,6 +14,10 @@ ghost use Rattle.pl_base.specs.MemoryFiles.{files_of};
 use crate::{Entry, List, ListError, Memory, Name};
 use std::alloc::Global;
 use std::collections::BTreeMap;
+
+/// The character behind the slash: all paths below a path stand between the path with a slash and
+/// the path with this one behind it.
+const AFTER_SLASH: char = '0';
 
 /// What follows the path and a slash in a held path.
 fn rest_below<'a>(held: &'a str, path: &str) -> Option<&'a str>
@@ -77,6 +81,16 @@ fn note(
     Ok(())
 }
 
+/// The path with an ASCII character behind it.
+fn path_with(alloc: Global, path: &str, behind: char) -> Result<String, Memory>
+    requires { behind < 128 }
+    ensures { IfOk result (λ text. string_bytes text ≡ path.now ++ behind ∷ []) }
+{
+    let mut text = String::from_str(alloc, path)?;
+    text.push(behind)?;
+    Ok(text)
+}
+
 /// All names directly below the path, and whether they are folders.
 fn names_below(
     files: &BTreeMap<String, Vec<u8>>,
@@ -85,8 +99,10 @@ fn names_below(
 ) -> Result<BTreeMap<String, bool>, Memory>
     ensures { IfOk result (λ names. (name : Sequence ℕ) → get_by_text names name ≡ told_by_all path.now name (keys files.now)) }
 {
+    let from = path_with(alloc, path, '/')?;
+    let to = path_with(alloc, path, AFTER_SLASH)?;
     let mut names = BTreeMap::new(alloc);
-    for held in files.keys() {
+    for (held, _) in files.range(from..to) {
         if let Some((name, folder)) = name_below(held.as_str(), path) {
             note(&mut names, alloc, name, folder)?;
         }

@@ -1,4 +1,4 @@
-ghost use Rattle.std.specs.Prelude.{◌≡◌, ◌≢◌, Option, Some, None, [], Err, Ok, IsOk, IfSome, MatchResult, option_copied, MatchBool, ℕ, List as Sequence, if◌then◌else◌};
+ghost use Rattle.std.specs.Prelude.{◌≡◌, ◌≢◌, ◌⊎◌, Option, Some, None, IsSome, [], Err, Ok, IsOk, IfSome, MatchResult, option_copied, MatchBool, ℕ, List as Sequence, if◌then◌else◌};
 ghost use Rattle.std.specs.FinMap.{empty, get, insert, remove};
 ghost use Rattle.pl_base.specs.Calls.{planned, FollowsPlan};
 ghost use Rattle.pl_base.specs.FileAnswers.{ReadGives, IsBounded, ListGives, IsShort, ReplaceLeaves, RemoveLeaves};
@@ -138,6 +138,7 @@ impl Files for MemFiles {
         ensures told { (files : FileMap) → Some self.old.held ≡ Some files → ReadGives (get files path.now) limit result }
         ensures same { Some self.new.held ≡ Some self.old.held }
         ensures plan { FollowsPlan self.old.calls self.new.calls (result ≡ Err ReadError.Failed) (IsOk result) }
+        ensures each { IsSome (planned self.old.calls) → result ≡ Err ReadError.Failed }
     {
         if self.schedule.next_call().is_some() {
             self.schedule.fault();
@@ -152,6 +153,7 @@ impl Files for MemFiles {
         ensures told { (files : FileMap) → Some self.old.held ≡ Some files → ListGives files path.now limit result }
         ensures same { Some self.new.held ≡ Some self.old.held }
         ensures plan { FollowsPlan self.old.calls self.new.calls (result ≡ Err ListError.Failed) (IsOk result) }
+        ensures each { IsSome (planned self.old.calls) → result ≡ Err ListError.Failed }
     {
         if self.schedule.next_call().is_some() {
             self.schedule.fault();
@@ -164,6 +166,7 @@ impl Files for MemFiles {
         ensures cause { HasCause self.old.calls.faults self.new.calls.faults (result ≡ Err ReplaceError.Failed) }
         ensures told { (files : FileMap) → Some self.old.held ≡ Some files → ReplaceLeaves files (insert files path.now bytes.now) result (Some self.new.held) }
         ensures plan { FollowsPlan self.old.calls self.new.calls (result ≡ Err ReplaceError.Failed) (IsOk result) }
+        ensures each { IsSome (planned self.old.calls) → (result ≡ Err ReplaceError.Failed) ⊎ (result ≡ Err ReplaceError.Memory) }
         ensures done { IfSome (planned self.old.calls) (λ fail. result ≡ Err ReplaceError.Failed → self.new.held ≡ (if fail.done then insert self.old.held path.now bytes.now else self.old.held)) }
     {
         match self.schedule.next_call() {
@@ -182,6 +185,7 @@ impl Files for MemFiles {
         ensures cause { HasCause self.old.calls.faults self.new.calls.faults (result ≡ Err RemoveError.Failed) }
         ensures told { (files : FileMap) → Some self.old.held ≡ Some files → RemoveLeaves files path.now result (Some self.new.held) }
         ensures plan { FollowsPlan self.old.calls self.new.calls (result ≡ Err RemoveError.Failed) (IsOk result) }
+        ensures each { IsSome (planned self.old.calls) → result ≡ Err RemoveError.Failed }
         ensures done { IfSome (planned self.old.calls) (λ fail. result ≡ Err RemoveError.Failed → self.new.held ≡ (if fail.done then remove self.old.held path.now else self.old.held)) }
     {
         match self.schedule.next_call() {
@@ -200,5 +204,73 @@ impl Files for MemFiles {
                 Err(RemoveError::Failed)
             }
         }
+    }
+}
+
+#[cfg(test)]
+mod tests {
+    use super::*;
+    use std::test::Fail as TestFail;
+
+    fn files_with(alloc: Global, call: u64, done: bool) -> Result<MemFiles, Memory> {
+        let mut fails = List::new(alloc);
+        fails.push(Fail { call, done })?;
+        let mut files = MemFiles::new(alloc, fails);
+        for path in ["d/a/x", "d/a/y/z", "d/a-b", "d/b", "d//c", "d", "dd/e"] {
+            files.put(path, path.as_bytes())?;
+        }
+        Ok(files)
+    }
+
+    /// Names come in their own order, which isn't that of the paths, and a folder once.
+    #[test]
+    fn lists_what_is_below(rt: HostRuntime) -> Result<(), TestFail> {
+        let alloc = rt.alloc();
+        let mut files = files_with(alloc, 3, false)?;
+        let listed = files.list(alloc, "d", 3)?;
+        assert_eq!(rt; listed.len(), 3);
+        let expected = [("a", true), ("a-b", false), ("b", false)];
+        for (entry, (name, folder)) in listed.as_slice().iter().zip(expected) {
+            assert_eq!(rt; entry.name.text(), name);
+            assert_eq!(rt; entry.folder, folder);
+        }
+        assert_eq!(rt; files.list(alloc, "d", 2).err(), Some(ListError::TooMany));
+        assert_eq!(rt; files.list(alloc, "d/b", 9).err(), Some(ListError::Missing));
+        assert_eq!(rt; files.list(alloc, "d", 9).err(), Some(ListError::Failed));
+        Ok(())
+    }
+
+    /// A read, a replacement and a removal, of which the one of a number fails.
+    #[test]
+    fn keeps_what_was_set(rt: HostRuntime) -> Result<(), TestFail> {
+        let alloc = rt.alloc();
+        let cases = [
+            (9, false, true, true),
+            (1, false, false, true),
+            (1, true, true, true),
+            (2, false, true, false),
+            (2, true, true, true),
+        ];
+        for (call, done, replaced, removed) in cases {
+            let mut files = files_with(alloc, call, done)?;
+            assert_eq!(rt;
+                files.read(alloc, "d/b", 2).err(),
+                Some(ReadError::TooLarge(3))
+            );
+            assert_eq!(rt; files.replace(alloc, "d/b", b"new").is_err(), call == 1);
+            assert_eq!(rt; files.remove(alloc, "d/a/x").is_err(), call == 2);
+            let text: &[u8] = if replaced { b"new" } else { b"d/b" };
+            assert_eq!(rt; files.get("d/b"), Some(text));
+            assert_eq!(rt; files.get("d/a/x").is_none(), removed);
+            assert_eq!(rt;
+                files.remove(alloc, "none").err(),
+                Some(RemoveError::Missing)
+            );
+            assert_eq!(rt;
+                files.read(alloc, "none", 2).err(),
+                Some(ReadError::Missing)
+            );
+        }
+        Ok(())
     }
 }

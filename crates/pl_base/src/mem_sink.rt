@@ -1,4 +1,4 @@
-ghost use Rattle.std.specs.Prelude.{◌≡◌, ℕ, Option, Some, List as Sequence, [], ◌++◌, Err, IsOk, IfSome, MatchResult, if◌then◌else◌};
+ghost use Rattle.std.specs.Prelude.{◌≡◌, ◌⊎◌, IsSome, ℕ, Option, Some, List as Sequence, [], ◌++◌, Err, IsOk, IfSome, MatchResult, if◌then◌else◌};
 ghost use Rattle.pl_base.specs.Calls.{planned, FollowsPlan};
 ghost use Rattle.pl_base.specs.Faults.{HasCause};
 ghost use Rattle.pl_base.specs.Written.{WriteLeaves};
@@ -61,6 +61,7 @@ impl Sink for MemSink {
         ensures cause { HasCause self.old.calls.faults self.new.calls.faults (result ≡ Err SinkError.Failed) }
         ensures told { (before : Sequence ℕ) → Some self.old.written ≡ Some before → WriteLeaves before bytes.now result (Some self.new.written) }
         ensures plan { FollowsPlan self.old.calls self.new.calls (result ≡ Err SinkError.Failed) (IsOk result) }
+        ensures each { IsSome (planned self.old.calls) → (result ≡ Err SinkError.Failed) ⊎ (result ≡ Err SinkError.Memory) }
         ensures done { IfSome (planned self.old.calls) (λ fail. result ≡ Err SinkError.Failed → self.new.written ≡ (if fail.done then self.old.written ++ bytes.now else self.old.written)) }
     {
         match self.schedule.next_call() {
@@ -73,5 +74,37 @@ impl Sink for MemSink {
                 Err(SinkError::Failed)
             }
         }
+    }
+}
+
+#[cfg(test)]
+mod tests {
+    use super::*;
+    use std::test::Fail as TestFail;
+
+    /// Three writes, of which the one of a number fails, before or after it took effect.
+    #[test]
+    fn keeps_what_was_written(rt: HostRuntime) -> Result<(), TestFail> {
+        let alloc = rt.alloc();
+        let cases = [
+            (9, false, "abc"),
+            (0, false, "c"),
+            (0, true, "abc"),
+            (1, true, "abc"),
+            (2, false, "ab"),
+            (2, true, "abc"),
+        ];
+        for (call, done, expected) in cases {
+            let mut fails = List::new(alloc);
+            fails.push(Fail { call, done })?;
+            let mut sink = MemSink::new(alloc, fails);
+            for (number, text) in [(0, "ab"), (1, ""), (2, "c")] {
+                let outcome = sink.write_all(alloc, text.as_bytes());
+                let failed = outcome == Err(SinkError::Failed);
+                assert_eq!(rt; failed, number == call);
+            }
+            assert_eq!(rt; sink.bytes(), expected.as_bytes());
+        }
+        Ok(())
     }
 }

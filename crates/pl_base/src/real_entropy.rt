@@ -42,3 +42,18 @@ impl<R: rt::Files> Entropy for RealEntropy<R> {
         self.faults.counted(outcome)
     }
 }
+
+#[cfg(test)]
+mod tests {
+    use super::*;
+    use std::test::Fail;
+
+    #[test]
+    fn gives_a_new_word_each_time(rt: HostRuntime) -> Result<(), Fail> {
+        let mut source = RealEntropy::new(&rt);
+        let first = source.fill32()?;
+        let second = source.fill32()?;
+        assert_ne!(rt; first, second);
+        Ok(())
+    }
+}

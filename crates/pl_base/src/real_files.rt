@@ -12,7 +12,7 @@ use std::{fs, io, rt};
 /// Who may read and write a file that is made: its owner alone, since a file may hold keys.
 const OWNER_ONLY: u32 = 0o600;
 
-/// The files of the system. It tells nothing of them.
+/// The files of the system. It tells nothing of them, and counts each answer that is an error.
 #[derive(Drop)]
 pub struct RealFiles<R> {
     files: R,
@@ -211,5 +211,111 @@ impl<R: rt::Files> Files for RealFiles<R> {
     fn remove(&mut self, _alloc: Global, path: &str) -> Result<(), RemoveError> {
         let outcome = remove_file(&self.files, path);
         self.faults.counted(outcome)
+    }
+}
+
+#[cfg(test)]
+mod tests {
+    use super::*;
+    use std::os::unix::fs::PermissionsExt;
+    use std::test::Fail;
+
+    /// A folder of the test's own.
+    const FOLDER: &str = "real_files_test";
+
+    fn has_bytes(
+        files: &mut RealFiles<&HostRuntime>,
+        alloc: Global,
+        path: &str,
+        bytes: &[u8],
+    ) -> bool {
+        match files.read(alloc, path, 1024) {
+            Ok(read) => read.as_slice() == bytes,
+            Err(_) => false,
+        }
+    }
+
+    #[test]
+    fn keeps_files(rt: HostRuntime) -> Result<(), Fail> {
+        let alloc = rt.alloc();
+        let _ = fs::remove_dir_all(&rt, FOLDER);
+        let mut files = RealFiles::new(&rt);
+        assert_eq!(rt;
+            files.list(alloc, FOLDER, 9).err(),
+            Some(ListError::Missing)
+        );
+        assert_eq!(rt;
+            files.read(alloc, "real_files_test/deep/a-b", 9).err(),
+            Some(ReadError::Missing)
+        );
+        assert_eq!(rt;
+            files.remove(alloc, "real_files_test/deep/a-b").err(),
+            Some(RemoveError::Missing)
+        );
+
+        files.replace(alloc, "real_files_test/deep/a-b", b"old")?;
+        fs::write(&rt, "real_files_test/deep/a-b.new", "left over")?;
+        files.replace(alloc, "real_files_test/deep/a-b", b"text")?;
+        files.replace(alloc, "real_files_test/deep/a/x", b"")?;
+        let mode = fs::metadata(&rt, "real_files_test/deep/a-b")?
+            .permissions()
+            .mode();
+        assert_eq!(rt; mode & 0o777, 0o600);
+
+        assert!(rt; has_bytes(&mut files, alloc, "real_files_test/deep/a-b", b"text"));
+        assert!(rt; has_bytes(&mut files, alloc, "real_files_test/deep/a/x", b""));
+        assert_eq!(rt;
+            files.read(alloc, "real_files_test/deep/a-b", 3).err(),
+            Some(ReadError::TooLarge(4))
+        );
+        // a file of the kernel, whose length it tells as 0
+        assert!(rt; has_bytes(&mut files, alloc, "/proc/sys/kernel/ostype", b"Linux\n"));
+
+        let listed = files.list(alloc, "real_files_test/deep", 2)?;
+        assert_eq!(rt; listed.len(), 2);
+        for (entry, (name, folder)) in listed.as_slice().iter().zip([("a", true), ("a-b", false)]) {
+            assert_eq!(rt; entry.name.text(), name);
+            assert_eq!(rt; entry.folder, folder);
+        }
+        assert_eq!(rt;
+            files.list(alloc, "real_files_test/deep", 1).err(),
+            Some(ListError::TooMany)
+        );
+
+        // a folder in place of a file, and paths below a file
+        assert_eq!(rt;
+            files.read(alloc, "real_files_test/deep", 9).err(),
+            Some(ReadError::Failed)
+        );
+        assert_eq!(rt;
+            files.read(alloc, "real_files_test/deep/a-b/x", 9).err(),
+            Some(ReadError::Failed)
+        );
+        assert_eq!(rt;
+            files.list(alloc, "real_files_test/deep/a-b", 9).err(),
+            Some(ListError::Failed)
+        );
+        assert_eq!(rt;
+            files
+                .replace(alloc, "real_files_test/deep/a-b/x", b"")
+                .err(),
+            Some(ReplaceError::Failed)
+        );
+        assert_eq!(rt;
+            files.replace(alloc, "real_files_test/deep/a", b"").err(),
+            Some(ReplaceError::Failed)
+        );
+        assert_eq!(rt;
+            files.remove(alloc, "real_files_test/deep/a-b/x").err(),
+            Some(RemoveError::Failed)
+        );
+
+        files.remove(alloc, "real_files_test/deep/a-b")?;
+        assert_eq!(rt;
+            files.read(alloc, "real_files_test/deep/a-b", 9).err(),
+            Some(ReadError::Missing)
+        );
+        fs::remove_dir_all(&rt, FOLDER)?;
+        Ok(())
     }
 }

@@ -33,3 +33,26 @@ impl<W: io::Write> Sink for RealSink<W> {
         self.faults.counted(outcome)
     }
 }
+
+#[cfg(test)]
+mod tests {
+    use super::*;
+    use std::fs;
+    use std::test::Fail;
+
+    /// A file that is open for writing, and one that is not.
+    #[test]
+    fn writes_to_the_system(rt: HostRuntime) -> Result<(), Fail> {
+        let alloc = rt.alloc();
+        let path = "real_sink_test";
+        let mut sink = RealSink::new(fs::create(&rt, path)?);
+        sink.write_all(alloc, b"first ")?;
+        sink.write_all(alloc, b"second")?;
+        assert_eq!(rt; fs::read_to_string(&rt, path)?.as_str(), "first second");
+
+        let mut closed = RealSink::new(fs::open(&rt, path)?);
+        assert_eq!(rt; closed.write_all(alloc, b"x"), Err(SinkError::Failed));
+        fs::remove_file(&rt, path)?;
+        Ok(())
+    }
+}

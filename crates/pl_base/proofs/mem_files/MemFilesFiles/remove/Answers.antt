@@ -1,5 +1,4 @@
 use Rattle.std.proofs.Common.{ap, ◌∙◌}
-use Rattle.std.specs.Prelude.{Some}
 use Rattle.std.specs.Option.{unwrap_or}
 use Rattle.pl_base.specs.MemoryFiles.{MemoryFiles}
 use Rattle.pl_base.proofs.HeldFiles.{unchanged}
