@@ -5,3 +5,4 @@ pub mod JsonRoundTrip
 pub mod DigestData
 pub mod RecordData
 pub mod ComponentData
+pub mod PlainTexts

@@ -1,0 +1,4 @@
+pub mod UserText
+pub mod Answers
+pub mod Found
+pub mod Written
