@@ -3,3 +3,4 @@ pub mod Fields
 pub mod SpecLaws
 pub mod RecordLaws
 pub mod LogLaws
+pub mod Appends
