@@ -4,3 +4,4 @@ pub mod SpecLaws
 pub mod RecordLaws
 pub mod LogLaws
 pub mod Appends
+pub mod WritableSteps

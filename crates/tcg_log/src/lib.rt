@@ -11,6 +11,7 @@ mod reading;
 mod record;
 mod spec_id;
 mod startup;
+mod writable;
 mod writing;
 
 pub use error::{LogError, LogKind};
@@ -19,4 +20,8 @@ pub use reading::read_log;
 pub use record::{EV_NO_ACTION, FirmwareRecord, Tagged};
 pub use spec_id::{Algorithm, SpecId};
 pub use startup::locality;
+pub use writable::is_writable;
 pub use writing::write_log;
+
+#[cfg(test)]
+mod tests;

@@ -204,7 +204,7 @@ fn spec(alloc: Global, all: u32, bytes: &[u8]) -> Result<(SpecId, &[u8]), LogErr
 }
 
 /// Whether one of the digests is of the algorithm.
-fn has_digest(digests: &[Tagged], algorithm: u16) -> bool
+pub(crate) fn has_digest(digests: &[Tagged], algorithm: u16) -> bool
     ensures { result ≡ is_tagged digests.now algorithm }
 {
     digests.iter().any(|t| t.algorithm == algorithm)
