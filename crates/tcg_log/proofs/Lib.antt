@@ -3,3 +3,5 @@ pub mod Fields
 pub mod SpecLaws
 pub mod RecordLaws
 pub mod LogLaws
+pub mod Appends
+pub mod WritableSteps

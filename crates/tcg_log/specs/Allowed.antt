@@ -42,11 +42,16 @@ size_named algorithms number = option_map (λ a. a.size) (find (λ a. a.number =
 abbrev pub is_tagged : List Tagged → ℕ → Bool
 is_tagged digests algorithm = list_any (λ t. t.algorithm == algorithm) digests
 
--- each digest is of an algorithm of its own, one of the given, and has its size
+-- a digest is of none of the algorithms before, but of one of the given, and has its size
+abbrev pub tagged_fits : List Algorithm → List Tagged → Tagged → Bool
+tagged_fits algorithms before t =
+    not (is_tagged before t.algorithm) && option_map_or (λ size. length t.digest == size) (size_named algorithms t.algorithm) false
+
+-- so is each digest, after those before it
 abbrev pub are_digests : List Algorithm → List Tagged → List Tagged → Bool
 are_digests algorithms before [] = true
 are_digests algorithms before (t ∷ more) =
-    (not (is_tagged before t.algorithm) && option_map_or (λ size. length t.digest == size) (size_named algorithms t.algorithm) false)
+    tagged_fits algorithms before t
     && are_digests algorithms (before ++ t ∷ []) more
 
 -- what is extended (all but EV_NO_ACTION) is extended into a PCR that there is

@@ -1,3 +1,4 @@
 pub mod Text
 pub mod Allowed
 pub mod Reading
+pub mod Locality

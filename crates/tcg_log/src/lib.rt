@@ -10,9 +10,18 @@ mod log;
 mod reading;
 mod record;
 mod spec_id;
+mod startup;
+mod writable;
+mod writing;
 
 pub use error::{LogError, LogKind};
 pub use log::{FirmwareLog, LIMIT, RECORDS};
 pub use reading::read_log;
 pub use record::{EV_NO_ACTION, FirmwareRecord, Tagged};
 pub use spec_id::{Algorithm, SpecId};
+pub use startup::locality;
+pub use writable::is_writable;
+pub use writing::write_log;
+
+#[cfg(test)]
+mod tests;

@@ -15,7 +15,7 @@ use pl_base::List;
 use std::alloc::Global;
 
 /// What a Spec ID event begins with.
-const SIGNATURE: &[u8] = b"Spec ID Event03\0";
+pub(crate) const SIGNATURE: &[u8] = b"Spec ID Event03\0";
 
 /// The fault of the field that begins with these bytes, the last of all that there are.
 fn fault_at(all: u32, kind: LogKind, bytes: &[u8]) -> LogError
@@ -204,7 +204,7 @@ fn spec(alloc: Global, all: u32, bytes: &[u8]) -> Result<(SpecId, &[u8]), LogErr
 }
 
 /// Whether one of the digests is of the algorithm.
-fn has_digest(digests: &[Tagged], algorithm: u16) -> bool
+pub(crate) fn has_digest(digests: &[Tagged], algorithm: u16) -> bool
     ensures { result ≡ is_tagged digests.now algorithm }
 {
     digests.iter().any(|t| t.algorithm == algorithm)
