@@ -1,7 +1,7 @@
 //! The commands that seal keys and open them: `enroll` and `unseal`.
 #![tactic(auto)]
 
-mod enroll;
+mod enrolling;
 mod values;
 
-pub use crate::enroll::enroll;
+pub use crate::enrolling::enroll;
