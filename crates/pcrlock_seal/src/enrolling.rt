@@ -6,8 +6,8 @@ ghost use Rattle.tpm_model.specs.Rules.{HasRules};
 ghost use Rattle.tpm_model.specs.Binding.{literal_policy};
 ghost use Rattle.policy_digest.specs.Policies.{IsPolicyHash};
 ghost use Rattle.policy_file.specs.TokenText.{IsLiteral, IsObject};
-ghost use Rattle.tpm_device.specs.Stored.{Holds};
-ghost use Rattle.std.specs.Prelude.{Option, None};
+ghost use Rattle.tpm_device.specs.Stored.{Stored, Holds};
+ghost use Rattle.std.specs.Prelude.{Option, None, ◌^◌, ◌<◌};
 ghost use Rattle.std.specs.FinMap.{insert};
 ghost use Rattle.pl_base.specs.FileMap.{FileMap};
 ghost use Rattle.policy_file.specs.TokenText.{token_text};
@@ -16,7 +16,7 @@ ghost use Rattle.pcrlock_words.specs.Texts.{enrolled_text};
 ghost use Rattle.pcrlock_line.specs.Machine.{Machine, Tells};
 ghost use Rattle.pcrlock_line.specs.Outcome.{Gives, ending_of};
 ghost use Rattle.pcrlock_line.specs.Causes.{HasCauses};
-ghost use Rattle.pcrlock_seal.specs.Enroll.{literal_hash as hash_of_literal, sealed_handle as handle_in, seal_refusal as refusal_in, key_sealed, with_key, enroll_line};
+ghost use Rattle.pcrlock_seal.specs.Enroll.{literal_hash as hash_of_literal, sealed_handle as handle_in, seal_refusal as refusal_in, token_written, key_sealed, with_key, enroll_line};
 
 use crate::values::present_value;
 use hash_bank::{Bank, Digest};
@@ -40,13 +40,22 @@ fn literal_hash(bank: Bank) -> Bank
     }
 }
 
+/// The mask of one PCR.
+fn mask_of(pcr: u8) -> u32
+    requires { pcr ≤ 23 }
+    ensures value { result ≡ 2 ^ pcr }
+    ensures bound { result < 2 ^ 24 }
+{
+    1 << pcr
+}
+
 /// The policy of a literal.
 fn policy_of_literal(literal: &Literal) -> Digest
     requires { IsLiteral literal.now }
     ensures { result ≡ literal_policy literal.now.hash literal.now.bank literal.now.pcr literal.now.value }
 {
     let values = values_digest_in(literal.hash, &[literal.value]);
-    policy_pcr_in(literal.hash, &Digest::zeros(literal.hash), literal.bank, 1 << literal.pcr, &values)
+    policy_pcr_in(literal.hash, &Digest::zeros(literal.hash), literal.bank, mask_of(literal.pcr), &values)
 }
 
 /// The handle of a sealed object.
@@ -91,8 +100,10 @@ fn write_literal<F: Files>(alloc: Global, files: &mut F, path: &Name, literal: &
     };
     let bytes = write_token(alloc, &token)?;
     let line = enrolled_line(alloc, object)?;
-    replace_file(alloc, files, path.text(), bytes.as_slice())?;
-    Ok(line)
+    match replace_file(alloc, files, path.text(), bytes.as_slice()) {
+        Ok(()) => Ok(line),
+        Err(stop) => Err(stop),
+    }
 }
 
 /// Seals the key to the literal's policy and writes the token.
@@ -107,10 +118,28 @@ fn seal_key<F: Files, T: Tpm>(alloc: Global, files: &mut F, tpm: &mut T, path: &
         policy: policy_of_literal(literal),
         secret: *key,
     };
-    let response = ask(alloc, tpm, &command)?;
-    match sealed_handle(&response) {
-        Some(handle) => Ok(Reply::Fine(write_literal(alloc, files, path, literal, handle)?)),
-        None => Ok(Reply::Refused(seal_refusal(alloc, &response)?)),
+    match ask(alloc, tpm, &command) {
+        Ok(response) => answered(alloc, files, path, literal, &response),
+        Err(stop) => Err(stop),
+    }
+}
+
+/// Writes the token where the key was sealed, and answers why not else.
+fn answered<F: Files>(alloc: Global, files: &mut F, path: &Name, literal: &Literal, response: &Response) -> Result<Reply, Stop>
+    requires { IsLiteral literal.now }
+    ensures causes { HasCauses (F.faults files.old, 0, 0, 0) (F.faults files.new, 0, 0, 0) result }
+    ensures told { (stored : Option Stored) (draws : Option (Sequence (Sequence ℕ))) (s : Parts) (m : Machine) → F.held files.old ≡ Some m.files → stored ≡ Some (Holds s) → draws ≡ Some m.draws → HasRules s
+        → IfOk result (λ reply. Gives (F.held files.new) stored draws reply (token_written path.now literal.now (handle_in response.now) response.now s m)) }
+{
+    match sealed_handle(response) {
+        Some(handle) => match write_literal(alloc, files, path, literal, handle) {
+            Ok(line) => Ok(Reply::Fine(line)),
+            Err(stop) => Err(stop),
+        },
+        None => match seal_refusal(alloc, response) {
+            Ok(answer) => Ok(Reply::Refused(answer)),
+            Err(_) => Err(Stop::Memory),
+        },
     }
 }
 
@@ -131,21 +160,64 @@ pub fn enroll<F: Files, T: Tpm, E: Entropy>(
     ensures told { (m : Machine) → Tells (F.held files.old) (T.stored tpm.old) (E.words entropy.old) m
         → IfOk result (λ reply. Gives (F.held files.new) (T.stored tpm.new) (E.words entropy.new) reply (enroll_line path.now pcr bank key m)) }
 {
-    if ready(alloc, tpm)?.is_err() {
-        return Err(Stop::Memory);
+    match ready(alloc, tpm) {
+        Ok(Ok(())) => with_device(alloc, files, tpm, entropy, path, key, pcr, bank),
+        Ok(Err(_)) => Err(Stop::Memory),
+        Err(stop) => Err(stop),
     }
-    let Some(value) = present_value(alloc, tpm, bank, pcr)? else {
-        return Ok(Reply::Refused(Answer::BankAbsent(bank)));
-    };
-    let literal = Literal {
-        hash: literal_hash(bank),
-        bank,
-        pcr,
-        value,
-    };
+}
+
+/// Enrolls with a device that is ready.
+fn with_device<F: Files, T: Tpm, E: Entropy>(
+    alloc: Global,
+    files: &mut F,
+    tpm: &mut T,
+    entropy: &mut E,
+    path: &Name,
+    key: Option<Small>,
+    pcr: u8,
+    bank: Bank,
+) -> Result<Reply, Stop>
+    requires readiness { T.ready tpm.old ≡ true }
+    requires number { pcr ≤ 23 }
+    ensures causes { HasCauses (F.faults files.old, E.faults entropy.old, T.faults tpm.old, 0) (F.faults files.new, E.faults entropy.new, T.faults tpm.new, 0) result }
+    ensures told { (m : Machine) → Tells (F.held files.old) (T.stored tpm.old) (E.words entropy.old) m → T.live tpm.old ≡ Some m.state
+        → IfOk result (λ reply. Gives (F.held files.new) (T.stored tpm.new) (E.words entropy.new) reply (enroll_line path.now pcr bank key m)) }
+{
+    match present_value(alloc, tpm, bank, pcr) {
+        Ok(Some(value)) => {
+            let literal = Literal {
+                hash: literal_hash(bank),
+                bank,
+                pcr,
+                value,
+            };
+            seal_under(alloc, files, tpm, entropy, path, key, &literal)
+        }
+        Ok(None) => Ok(Reply::Refused(Answer::BankAbsent(bank))),
+        Err(stop) => Err(stop),
+    }
+}
+
+/// Seals the key, or a drawn one, under the literal.
+fn seal_under<F: Files, T: Tpm, E: Entropy>(
+    alloc: Global,
+    files: &mut F,
+    tpm: &mut T,
+    entropy: &mut E,
+    path: &Name,
+    key: Option<Small>,
+    literal: &Literal,
+) -> Result<Reply, Stop>
+    requires readiness { T.ready tpm.old ≡ true }
+    requires literal { IsLiteral literal.now }
+    ensures causes { HasCauses (F.faults files.old, E.faults entropy.old, T.faults tpm.old, 0) (F.faults files.new, E.faults entropy.new, T.faults tpm.new, 0) result }
+    ensures told { (m : Machine) → Tells (F.held files.old) (T.stored tpm.old) (E.words entropy.old) m → T.live tpm.old ≡ Some m.state
+        → IfOk result (λ reply. Gives (F.held files.new) (T.stored tpm.new) (E.words entropy.new) reply (with_key path.now literal.now key m.draws m)) }
+{
     match key {
-        Some(key) => seal_key(alloc, files, tpm, path, &literal, &key),
-        None => seal_drawn(alloc, files, tpm, entropy, path, &literal),
+        Some(key) => seal_key(alloc, files, tpm, path, literal, &key),
+        None => seal_drawn(alloc, files, tpm, entropy, path, literal),
     }
 }
 
@@ -164,9 +236,11 @@ fn seal_drawn<F: Files, T: Tpm, E: Entropy>(
     ensures told { (m : Machine) → Tells (F.held files.old) (T.stored tpm.old) (E.words entropy.old) m → T.live tpm.old ≡ Some m.state
         → IfOk result (λ reply. Gives (F.held files.new) (T.stored tpm.new) (E.words entropy.new) reply (with_key path.now literal.now None m.draws m)) }
 {
-    let word = draw(entropy)?;
-    match Small::from_slice(&word) {
-        Some(key) => seal_key(alloc, files, tpm, path, literal, &key),
-        None => Err(Stop::Memory),
+    match draw(entropy) {
+        Ok(word) => match Small::from_slice(&word) {
+            Some(key) => seal_key(alloc, files, tpm, path, literal, &key),
+            None => Err(Stop::Memory),
+        },
+        Err(stop) => Err(stop),
     }
 }
