@@ -41,6 +41,7 @@ fn literal_hash(bank: Bank) -> Bank
 }
 
 /// The mask of one PCR.
+#[tactic(auto, using(std::proofs::lemmas::Nat::pow_below))]
 fn mask_of(pcr: u8) -> u32
     requires { pcr ≤ 23 }
     ensures value { result ≡ 2 ^ pcr }
@@ -50,12 +51,19 @@ fn mask_of(pcr: u8) -> u32
 }
 
 /// The policy of a literal.
+#[tactic(auto, using(policy_session::proofs::OnePcr::one_value))]
 fn policy_of_literal(literal: &Literal) -> Digest
     requires { IsLiteral literal.now }
     ensures { result ≡ literal_policy literal.now.hash literal.now.bank literal.now.pcr literal.now.value }
 {
     let values = values_digest_in(literal.hash, &[literal.value]);
-    policy_pcr_in(literal.hash, &Digest::zeros(literal.hash), literal.bank, mask_of(literal.pcr), &values)
+    policy_pcr_in(
+        literal.hash,
+        &Digest::zeros(literal.hash),
+        literal.bank,
+        mask_of(literal.pcr),
+        &values,
+    )
 }
 
 /// The handle of a sealed object.
@@ -64,11 +72,12 @@ fn sealed_handle(response: &Response) -> Option<u32>
     ensures range { IfSome result IsObject }
 {
     match response {
-        Response::Object(handle) if *handle >= 0x8100_0000 && *handle <= 0x817F_FFFF => Some(*handle),
+        Response::Object(handle) if *handle >= 0x8100_0000 && *handle <= 0x817F_FFFF => Some(
+            *handle,
+        ),
         _ => None,
     }
 }
-
 
 /// Why nothing was sealed.
 fn seal_refusal(alloc: Global, response: &Response) -> Result<Answer, Memory>
@@ -87,7 +96,13 @@ fn seal_refusal(alloc: Global, response: &Response) -> Result<Answer, Memory>
 }
 
 /// Writes the token of an object, and gives the line that names its handle.
-fn write_literal<F: Files>(alloc: Global, files: &mut F, path: &Name, literal: &Literal, object: u32) -> Result<Vec<u8>, Stop>
+fn write_literal<F: Files>(
+    alloc: Global,
+    files: &mut F,
+    path: &Name,
+    literal: &Literal,
+    object: u32,
+) -> Result<Vec<u8>, Stop>
     requires literal { IsLiteral literal.now }
     requires object { IsObject object }
     ensures causes { HasCauses (F.faults files.old, 0, 0, 0) (F.faults files.new, 0, 0, 0) result }
@@ -107,7 +122,14 @@ fn write_literal<F: Files>(alloc: Global, files: &mut F, path: &Name, literal: &
 }
 
 /// Seals the key to the literal's policy and writes the token.
-fn seal_key<F: Files, T: Tpm>(alloc: Global, files: &mut F, tpm: &mut T, path: &Name, literal: &Literal, key: &Small) -> Result<Reply, Stop>
+fn seal_key<F: Files, T: Tpm>(
+    alloc: Global,
+    files: &mut F,
+    tpm: &mut T,
+    path: &Name,
+    literal: &Literal,
+    key: &Small,
+) -> Result<Reply, Stop>
     requires readiness { T.ready tpm.old ≡ true }
     requires literal { IsLiteral literal.now }
     ensures causes { HasCauses (F.faults files.old, 0, T.faults tpm.old, 0) (F.faults files.new, 0, T.faults tpm.new, 0) result }
@@ -125,7 +147,13 @@ fn seal_key<F: Files, T: Tpm>(alloc: Global, files: &mut F, tpm: &mut T, path: &
 }
 
 /// Writes the token where the key was sealed, and answers why not else.
-fn answered<F: Files>(alloc: Global, files: &mut F, path: &Name, literal: &Literal, response: &Response) -> Result<Reply, Stop>
+fn answered<F: Files>(
+    alloc: Global,
+    files: &mut F,
+    path: &Name,
+    literal: &Literal,
+    response: &Response,
+) -> Result<Reply, Stop>
     requires { IsLiteral literal.now }
     ensures causes { HasCauses (F.faults files.old, 0, 0, 0) (F.faults files.new, 0, 0, 0) result }
     ensures told { (stored : Option Stored) (draws : Option (Sequence (Sequence ℕ))) (s : Parts) (m : Machine) → F.held files.old ≡ Some m.files → stored ≡ Some (Holds s) → draws ≡ Some m.draws → HasRules s
@@ -186,6 +214,10 @@ fn with_device<F: Files, T: Tpm, E: Entropy>(
 {
     match present_value(alloc, tpm, bank, pcr) {
         Ok(Some(value)) => {
+            // A device that tells its state is ready still.
+            if !tpm.is_ready() {
+                return Err(Stop::Memory);
+            }
             let literal = Literal {
                 hash: literal_hash(bank),
                 bank,

@@ -26,7 +26,12 @@ fn value_in(bank: Bank, response: &Response) -> Option<Digest>
 }
 
 /// The present value of a PCR, or None where its bank isn't present. The state stays as it is.
-pub(crate) fn present_value<T: Tpm>(alloc: Global, tpm: &mut T, bank: Bank, pcr: u8) -> Result<Option<Digest>, Stop>
+pub(crate) fn present_value<T: Tpm>(
+    alloc: Global,
+    tpm: &mut T,
+    bank: Bank,
+    pcr: u8,
+) -> Result<Option<Digest>, Stop>
     requires readiness { T.ready tpm.old ≡ true }
     requires number { pcr ≤ 23 }
     ensures causes { HasCauses (0, 0, T.faults tpm.old, 0) (0, 0, T.faults tpm.new, 0) result }
