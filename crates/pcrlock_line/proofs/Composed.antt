@@ -63,7 +63,10 @@ none_rose r = absurd (omega (arith, r))
 pub on_tpm : {A : Type 0} (files entropy out before now : ℕ) (result : Result A Stop) → HasCauses (0, 0, before, 0) (0, 0, now, 0) result
     → HasCauses (files, entropy, before, out) (files, entropy, now, out) result
 on_tpm files entropy out before now result h = record {
-  files = omega arith; entropy = omega arith; tpm = h.tpm; out = omega arith;
+  files = omega arith;
+  entropy = omega arith;
+  tpm = h.tpm;
+  out = omega arith;
   cause = λ stop e. on stop (h.cause stop e);
 }
   where
@@ -79,7 +82,10 @@ on_tpm files entropy out before now result h = record {
 pub on_files : {A : Type 0} (entropy tpm out before now : ℕ) (result : Result A Stop) → HasCauses (before, 0, 0, 0) (now, 0, 0, 0) result
     → HasCauses (before, entropy, tpm, out) (now, entropy, tpm, out) result
 on_files entropy tpm out before now result h = record {
-  files = h.files; entropy = omega arith; tpm = omega arith; out = omega arith;
+  files = h.files;
+  entropy = omega arith;
+  tpm = omega arith;
+  out = omega arith;
   cause = λ stop e. on stop (h.cause stop e);
 }
   where
@@ -95,7 +101,10 @@ on_files entropy tpm out before now result h = record {
 pub on_entropy : {A : Type 0} (files tpm out before now : ℕ) (result : Result A Stop) → HasCauses (0, before, 0, 0) (0, now, 0, 0) result
     → HasCauses (files, before, tpm, out) (files, now, tpm, out) result
 on_entropy files tpm out before now result h = record {
-  files = omega arith; entropy = h.entropy; tpm = omega arith; out = omega arith;
+  files = omega arith;
+  entropy = h.entropy;
+  tpm = omega arith;
+  out = omega arith;
   cause = λ stop e. on stop (h.cause stop e);
 }
   where
@@ -111,7 +120,10 @@ on_entropy files tpm out before now result h = record {
 pub on_files_tpm : {A : Type 0} (entropy out f g t u : ℕ) (result : Result A Stop) → HasCauses (f, 0, t, 0) (g, 0, u, 0) result
     → HasCauses (f, entropy, t, out) (g, entropy, u, out) result
 on_files_tpm entropy out f g t u result h = record {
-  files = h.files; entropy = omega arith; tpm = h.tpm; out = omega arith;
+  files = h.files;
+  entropy = omega arith;
+  tpm = h.tpm;
+  out = omega arith;
   cause = λ stop e. on stop (h.cause stop e);
 }
   where
@@ -131,4 +143,14 @@ then a b c first second h k = record {
   tpm = omega (arith, h.tpm, k.tpm);
   out = omega (arith, h.out, k.out);
   cause = λ stop e. caused_since a b c stop h.files h.entropy h.tpm h.out (k.cause stop e);
+}
+
+-- want of memory needs no cause
+pub memory : {A D : Type 0} (a b : Counts) (first : Result A Stop) → HasCauses a b first → HasCauses {A = D} a b (Err Memory)
+memory a b first h = record {
+  files = h.files;
+  entropy = h.entropy;
+  tpm = h.tpm;
+  out = h.out;
+  cause = λ other same. let same_stop : Memory ≡ other = cc in subst (IsCaused a b) same_stop tt;
 }

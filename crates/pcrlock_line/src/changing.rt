@@ -10,7 +10,12 @@ use pl_base::{Entropy, Files, ReplaceError};
 use std::alloc::Global;
 
 /// Sets the bytes of the file at the path. After a stop the file is the old or the new one.
-pub fn replace_file<F: Files>(alloc: Global, files: &mut F, path: &str, bytes: &[u8]) -> Result<(), Stop>
+pub fn replace_file<F: Files>(
+    alloc: Global,
+    files: &mut F,
+    path: &str,
+    bytes: &[u8],
+) -> Result<(), Stop>
     ensures causes { HasCauses (F.faults files.old, 0, 0, 0) (F.faults files.new, 0, 0, 0) result }
     ensures told { (held : FileMap) → F.held files.old ≡ Some held → OnOk result (F.held files.new ≡ Some (insert held path.now bytes.now)) }
     ensures stops { (held : FileMap) → F.held files.old ≡ Some held

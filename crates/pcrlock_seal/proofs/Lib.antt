@@ -1,0 +1,2 @@
+pub mod PcrReads
+pub mod Sealed
