@@ -1,8 +1,10 @@
 -- One record more, replayed and measured.
-use Rattle.std.proofs.Common.{◌≡◌, ℕ, ◌+◌, ◌<◌, ◌≤◌, true, false, cond, eqb, List, [], ◌∷◌, ◌++◌, length, get_or, drop, map, Option, Some, None, refl, sym, ap, ◌∙◌, append_assoc}
+use Rattle.std.proofs.Common.{◌≡◌, ℕ, ◌+◌, ◌<◌, ◌≤◌, true, false, cond, eqb, List, [], ◌∷◌, ◌++◌, length, get_or, set, drop, map, Option, Some, None, refl, sym, ap, subst, ◌∙◌, append_assoc, eq-eqb, inl, inr, arith}
 use Rattle.std.specs.Prelude.{filter}
 use Rattle.std.specs.Option.{option_map}
-use Rattle.std.proofs.lemmas.List.{drop_more, drop_all}
+use Rattle.std.specs.Option.{IfSome}
+use Rattle.std.proofs.lemmas.Bool.{cases_eq, ne_eqb}
+use Rattle.std.proofs.lemmas.List.{drop_more, drop_all, get_or-set_same, get_or-set_other}
 use Rattle.hash_bank.specs.Extending.{extended}
 use Rattle.hash_bank.specs.declared.bank.Bank.{Bank}
 use Rattle.hash_bank.specs.declared.bank.Bank.TheVariants.{Sha1, Sha256, Sha384, Sha512}
@@ -11,7 +13,7 @@ use Rattle.hash_bank.specs.Digests.{digest_at}
 use Rattle.cel_record.specs.Listed.{listed, listed_in}
 use Rattle.pcr_replay.specs.declared.record.LogRecord.{LogRecord}
 use Rattle.pcr_replay.specs.Row.{Row, row, rows}
-use Rattle.pcr_replay.specs.Measured.{all_present, measured_in, extended_by}
+use Rattle.pcr_replay.specs.Measured.{all_present, measured_in, extended_by, value_after, replay_on}
 
 -- the value after the extends of these rows, from this value on
 abbrev pub replay_from : Bank → ℕ → List ℕ → List Row → Option (List ℕ)
@@ -85,3 +87,40 @@ listed_is Sha1 digests = refl
 listed_is Sha256 digests = refl
 listed_is Sha384 digests = refl
 listed_is Sha512 digests = refl
+
+-- ---- all PCRs at once
+
+on_skips : (bank : Bank) (pcr : ℕ) (o : Option (List ℕ)) (r : Row) (more : List Row) → eqb r.pcr pcr ≡ false → replay_on bank pcr o more ≡ replay_on bank pcr o (r ∷ more)
+on_skips bank pcr None r more other = refl
+on_skips bank pcr (Some v) r more other = ap (option_map (extended_by bank v)) (sym (skipped bank pcr r more other))
+
+on_takes : (bank : Bank) (pcr : ℕ) (o d : Option (List ℕ)) (r : Row) (more : List Row) → eqb r.pcr pcr ≡ true → listed_in bank r.digests ≡ d → replay_on bank pcr (value_after bank o d) more ≡ replay_on bank pcr o (r ∷ more)
+on_takes bank pcr None d r more same is = refl
+on_takes bank pcr (Some v) None r more same is = ap (option_map (extended_by bank v)) (sym (lacking bank pcr r more same is))
+on_takes bank pcr (Some v) (Some d) r more same is =
+    sym (through (λ ds. d ∷ ds) (extended_by bank v) (measured_in bank pcr more)) ∙ ap (option_map (extended_by bank v)) (sym (having bank pcr r more d same is))
+
+-- each PCR's value, with what is still to come, after one more record
+pub all_next : (bank : Bank) (list : List LogRecord) (i : ℕ) (r : LogRecord) (values : List (Option (List ℕ))) (total : ℕ → Option (List ℕ)) → i < length list → r ≡ get_or list i r → r.pcr < length values
+    → ((pcr : ℕ) → pcr < 24 → replay_on bank pcr (get_or values pcr None) (rows (drop i list)) ≡ total pcr)
+    → (pcr : ℕ) → pcr < 24 → replay_on bank pcr (get_or (set values r.pcr (value_after bank (get_or values r.pcr None) (digest_at r.digests bank))) pcr None) (rows (drop (i + 1) list)) ≡ total pcr
+all_next bank list i r values total lt is within so_far pcr below =
+    elim (cases_eq r.pcr pcr) [
+      | inl same ↦
+          ap (λ o. replay_on bank pcr o (rows (drop (i + 1) list))) (ap (λ k. get_or (set values k (value_after bank (get_or values k None) (digest_at r.digests bank))) pcr None) same ∙ get_or-set_same values pcr (value_after bank (get_or values pcr None) (digest_at r.digests bank)) None (subst (λ k. k < length values) same within))
+          ∙ on_takes bank pcr (get_or values pcr None) (digest_at r.digests bank) (row r) (rows (drop (i + 1) list)) (eq-eqb _ _ same) (listed_is bank r.digests)
+          ∙ ap (replay_on bank pcr (get_or values pcr None)) (sym (next list i r lt is)) ∙ so_far pcr below
+      | inr other ↦
+          ap (λ o. replay_on bank pcr o (rows (drop (i + 1) list))) (get_or-set_other values r.pcr pcr (value_after bank (get_or values r.pcr None) (digest_at r.digests bank)) None (λ e. other (sym e)))
+          ∙ on_skips bank pcr (get_or values pcr None) (row r) (rows (drop (i + 1) list)) (ne_eqb _ _ other)
+          ∙ ap (replay_on bank pcr (get_or values pcr None)) (sym (next list i r lt is)) ∙ so_far pcr below
+    ]
+
+-- one value more that has a fact, where each had it
+pub facts_next : (P : List ℕ → Type 0) (values : List (Option (List ℕ))) (i : ℕ) (x : Option (List ℕ)) → i < length values → IfSome x P → ((k : ℕ) → k < 24 → IfSome (get_or values k None) P)
+    → (k : ℕ) → k < 24 → IfSome (get_or (set values i x) k None) P
+facts_next P values i x within here each k below =
+    elim (cases_eq i k) [
+      | inl same ↦ subst (λ j. IfSome (get_or (set values i x) j None) P) same (subst (λ o. IfSome o P) (sym (get_or-set_same values i x None within)) here)
+      | inr other ↦ subst (λ o. IfSome o P) (sym (get_or-set_other values i k x None (λ e. other (sym e)))) (each k below)
+    ]

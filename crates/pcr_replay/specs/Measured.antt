@@ -24,3 +24,14 @@ extended_by bank value digests = fold (λ v d. extended bank v d) value digests
 -- the PCR's value after all that was measured since a restart at the locality
 abbrev pub replayed_in : Bank → ℕ → ℕ → List Row → Option (List ℕ)
 replayed_in bank pcr locality rows = option_map (extended_by bank (start_of bank pcr locality)) (measured_in bank pcr rows)
+
+-- a value after an extend by a digest, where both are there
+abbrev pub value_after : Bank → Option (List ℕ) → Option (List ℕ) → Option (List ℕ)
+value_after bank None d = None
+value_after bank (Some v) None = None
+value_after bank (Some v) (Some d) = Some (extended bank v d)
+
+-- a value after all that was measured into the PCR, where each is there
+abbrev pub replay_on : Bank → ℕ → Option (List ℕ) → List Row → Option (List ℕ)
+replay_on bank pcr None rows = None
+replay_on bank pcr (Some v) rows = option_map (extended_by bank v) (measured_in bank pcr rows)

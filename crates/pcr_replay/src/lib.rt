@@ -11,4 +11,7 @@ mod replaying;
 pub use combining::combined;
 pub use measuring::measured;
 pub use record::{LogRecord, Origin};
-pub use replaying::replay;
+pub use replaying::{replay, replay_all};
+
+#[cfg(test)]
+mod tests;
