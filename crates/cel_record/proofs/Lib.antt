@@ -6,3 +6,4 @@ pub mod DigestData
 pub mod RecordData
 pub mod ComponentData
 pub mod PlainTexts
+pub mod Exact

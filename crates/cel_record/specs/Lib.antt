@@ -10,3 +10,4 @@ pub mod Answers
 pub mod Written
 pub mod Commas
 pub mod Proper
+pub mod IsRecord

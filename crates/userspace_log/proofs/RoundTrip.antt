@@ -1,23 +1,21 @@
 -- A written log reads as the records that were written.
-use Rattle.std.proofs.Common.{◌≡◌, ◌≤◌, ◌+◌, ◌-◌, ◌==◌, ℕ, suc, Bool, true, false, nat_le, nat_lt, ◌&&◌, List, [], ◌∷◌, ◌++◌, length, map, take, flat_map, get_or, Option, Some, None, Result, Ok, Err, refl, sym, ap, ◌∙◌, arith, append_assoc, append-nil, length-append, ne_eqb, ltb}
+use Rattle.std.proofs.Common.{◌≡◌, ◌≤◌, ◌+◌, ◌-◌, ℕ, true, false, nat_le, nat_lt, ◌&&◌, List, [], ◌∷◌, ◌++◌, length, map, take, get_or, Some, Ok, refl, ap, ◌∙◌, arith, append-nil, ne_eqb}
 use Rattle.std.specs.Prelude.{All}
 use Rattle.std.specs.List.{slice_split}
 use Rattle.std.proofs.lemmas.Grind.{common_steps}
 use Rattle.std.proofs.lemmas.List.Elements.{All-head, All-tail, All-nil, All-cons}
 use Rattle.std.proofs.lemmas.List.Splits.{slice_split_at, slice_split_none}
-use Rattle.std.proofs.lemmas.Bool.{and_parts, ltb-true}
+use Rattle.std.proofs.lemmas.Bool.{and_parts}
 use Rattle.cel_record.specs.Proper.{IsProper}
-use Rattle.cel_record.specs.RecordText.{record_of}
 use Rattle.cel_record.specs.Spelled.{Spelled}
 use Rattle.cel_record.specs.Step.{◌>>=◌}
 use Rattle.cel_record.specs.Written.{record_text}
 use Rattle.cel_record.proofs.PlainTexts.{is_plain, is_plain-record_text, json_of-record_text}
-use Rattle.cel_record.proofs.RecordData.{record_data, record_of-record_data}
+use Rattle.cel_record.proofs.RecordData.{record_of-record_data}
 use Rattle.serde_json.specs.Data.{no_members}
-use Rattle.userspace_log.specs.declared.error.SeqError.{SeqError}
-use Rattle.userspace_log.specs.Found.{Found, with_first}
-use Rattle.userspace_log.specs.UserText.{is_separator, found_from, log_of, piece_says, text_limit, text_says, value_says, without_feed}
-use Rattle.userspace_log.specs.Written.{piece_text, written_text, seq_text}
+use Rattle.userspace_log.specs.Found.{with_first}
+use Rattle.userspace_log.specs.UserText.{is_separator, found_from, log_of, piece_says, text_limit, text_says, without_feed}
+use Rattle.userspace_log.specs.Written.{piece_text, seq_text}
 
 -- ---- the cut
 

@@ -119,8 +119,9 @@ fn reads_and_writes_a_log(rt: HostRuntime) -> Result<(), Fail> {
         return Err("a good log")?;
     };
     assert_eq!(rt; log.skipped, 1);
-    assert_eq!(rt; log.records.as_slice(), [first, second].as_slice());
-    let written = write_seq(alloc, [first, second].as_slice())?;
+    let records = [first, second];
+    assert_eq!(rt; log.records.as_slice(), records.as_slice());
+    let written = write_seq(alloc, &records)?;
     let text = format!(in alloc;
         "\u{1e}{{\"digests\":[{{\"digest\":\"{DIGEST}\",\"hashAlg\":\"sha256\"}}],\"pcr\":11}}\n\u{1e}{{\"digests\":[],\"pcr\":0}}\n"
     )?;

@@ -1,0 +1,25 @@
+//! Benchmarks of the program's crates. Without words each runs once on a small input. With the name
+//! of one and a number it runs that many times on a large input, which it makes itself, so that the
+//! cost of a run is the difference between two numbers (docs/PERFORMANCE.md).
+#![tactic(auto)]
+
+mod records;
+
+use std::env;
+
+fn main(rt: HostRuntime) -> anyhow::Result<()> {
+    let alloc = rt.alloc();
+    let mut words = env::args(&rt)?;
+    drop(words.next());
+    let Some(name) = words.next() else {
+        for name in records::NAMES {
+            let count = records::run(alloc, name, records::SMALL, 1)?;
+            println!(rt; "{name} {count}")?;
+        }
+        return Ok(());
+    };
+    let rounds = words.next().and_then(|word| word.parse::<u32>().ok());
+    let count = records::run(alloc, name.as_str(), records::LARGE, rounds.unwrap_or(1))?;
+    println!(rt; "{name} {count}")?;
+    Ok(())
+}
