@@ -1,0 +1,4 @@
+pub mod Row
+pub mod Combined
+pub mod Measured
+pub mod Sized
