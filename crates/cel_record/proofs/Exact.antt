@@ -1,33 +1,18 @@
 -- The tests of a record in their order pass exactly where the value is the record.
-<<<<<<< HEAD
 use Rattle.std.proofs.Common.{◌≡◌, ◌≤◌, ◌⊎◌, ◌↔◌, ℕ, Bool, true, false, List, [], codes, nat_le, Option, Some, None, is_some, option_and_then, Result, Ok, Err, IsOk, if◌then◌else◌, inl, inr, refl, sym, ap, subst, ◌∙◌, le-leb}
 use Rattle.std.proofs.lemmas.Bool.{leb-true}
 use Rattle.std.specs.Option.{ok_or}
 use Rattle.serde_json.specs.Data.{Data, null, boolean, number, string, array, object, Items, no_items, item, Members}
 use Rattle.serde_json.specs.Find.{as_object}
-=======
-use Rattle.std.proofs.Common.{◌≡◌, ◌≤◌, ◌⊎◌, ◌↔◌, ℕ, Bool, true, false, List, codes, nat_le, Option, Some, None, is_some, option_and_then, Result, Ok, Err, IsOk, inl, inr, refl, sym, ap, subst, ◌∙◌, arith, le-leb, ltb}
-use Rattle.std.specs.Option.{ok_or}
-use Rattle.serde_json.specs.Data.{Data, Items, no_items, item}
-use Rattle.serde_json.specs.Find.{as_object, get}
->>>>>>> firmware
 use Rattle.hash_bank.specs.declared.bank.Bank.{Bank}
 use Rattle.hash_bank.specs.declared.bank.Bank.TheVariants.{Sha1, Sha256, Sha384, Sha512}
 use Rattle.cel_record.specs.declared.kind.RecordKind.{RecordKind}
 use Rattle.cel_record.specs.declared.kind.RecordKind.TheVariants as kinds
-<<<<<<< HEAD
 use Rattle.cel_record.specs.IsRecord.{States, AreGood, AreDistinct, AreDigestsOf, IsRecord}
 use Rattle.cel_record.specs.JsonValue.{unsigned_at, array_at}
 use Rattle.cel_record.specs.Listed.{Listed, listed_in, with_digest, none_listed}
 use Rattle.cel_record.specs.Member.{member_of}
 use Rattle.cel_record.specs.RecordText.{digests_after, pcr_number, record_of, with_member}
-=======
-use Rattle.cel_record.specs.IsRecord.{Among, States, AreGood, AreDistinct, AreDigestsOf, IsRecord}
-use Rattle.cel_record.specs.JsonValue.{unsigned_at, array_at}
-use Rattle.cel_record.specs.Listed.{Listed, listed_in, with_digest, none_listed}
-use Rattle.cel_record.specs.Member.{member_of}
-use Rattle.cel_record.specs.RecordText.{digests_after, digests_with, pcr_number, record_of, with_member}
->>>>>>> firmware
 use Rattle.cel_record.specs.Spelled.{Spelled}
 use Rattle.cel_record.specs.Step.{◌>>=◌}
 
@@ -92,7 +77,6 @@ lists_none l r e = record {
   apart = λ b x y h s. absurd s.1;
   stated = λ b x. (λ h. inl (ap (listed_in b) e ∙ h), λ h. elim h [ inl p ↦ ap (listed_in b) (sym e) ∙ p | inr s ↦ absurd s.1 ]);
 }
-<<<<<<< HEAD
 
 -- what a member says is one thing
 bank_said : Result (Option (Bank × List ℕ)) RecordKind → Bank
@@ -347,5 +331,3 @@ is-record_of d r h =
 
 pub record_of_exactly : (d : Data) (r : Spelled) → record_of d ≡ Ok r ↔ IsRecord d r
 record_of_exactly d r = (record_of-is d r, is-record_of d r)
-=======
->>>>>>> firmware
