@@ -13,6 +13,9 @@ ghost use Rattle.pl_base.specs.FileMap.{FileMap};
 ghost use Rattle.policy_file.specs.TokenText.{token_text};
 ghost use Rattle.policy_file.specs.declared.token.Token.TheVariants as token_value;
 ghost use Rattle.pcrlock_words.specs.Texts.{enrolled_text};
+ghost use Rattle.tpm_model.specs.World.{World};
+ghost use Rattle.tpm_model.specs.Tied.{Tied};
+ghost use Rattle.pcrlock_seal.specs.EnrollWorld.{enroll_world};
 ghost use Rattle.pcrlock_line.specs.Machine.{Machine, Tells};
 ghost use Rattle.pcrlock_line.specs.Outcome.{Gives, ending_of};
 ghost use Rattle.pcrlock_line.specs.Causes.{HasCauses};
@@ -173,6 +176,7 @@ fn answered<F: Files>(
 
 /// Enrolls the key, or a drawn one, under the present value of the PCR, and writes its token to the
 /// path.
+#[tactic(auto, using(crate::proofs::Enrolled::enroll_tied))]
 pub fn enroll<F: Files, T: Tpm, E: Entropy>(
     alloc: Global,
     files: &mut F,
@@ -187,6 +191,9 @@ pub fn enroll<F: Files, T: Tpm, E: Entropy>(
     ensures causes { HasCauses (F.faults files.old, E.faults entropy.old, T.faults tpm.old, 0) (F.faults files.new, E.faults entropy.new, T.faults tpm.new, 0) result }
     ensures told { (m : Machine) → Tells (F.held files.old) (T.stored tpm.old) (E.words entropy.old) m
         → IfOk result (λ reply. Gives (F.held files.new) (T.stored tpm.new) (E.words entropy.new) reply (enroll_line path.now pcr bank key m)) }
+    // A world that is tied to the state before is tied, with the object, to the state afterwards.
+    ensures tied { (m : Machine) (w : World) → Tells (F.held files.old) (T.stored tpm.old) (E.words entropy.old) m → Tied m.state w
+        → Tied (enroll_line path.now pcr bank key m).after.state (enroll_world pcr bank key m w) }
 {
     match ready(alloc, tpm) {
         Ok(Ok(())) => with_device(alloc, files, tpm, entropy, path, key, pcr, bank),
