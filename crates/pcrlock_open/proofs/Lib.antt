@@ -1,3 +1,4 @@
 pub mod SameValues
 pub mod Endings
 pub mod Gives
+pub mod Stops

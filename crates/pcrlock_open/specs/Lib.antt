@@ -1,3 +1,4 @@
 pub mod Unseal
 pub mod Endings
 pub mod TokenRead
+pub mod Stopped
