@@ -1,4 +1,5 @@
-pub mod SameValues
 pub mod Endings
 pub mod Gives
 pub mod Opens
+pub mod SameValues
+pub mod Stops

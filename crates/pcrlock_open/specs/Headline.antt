@@ -19,7 +19,7 @@ use Rattle.pcrlock_open.specs.Unseal.{unseal_line, present_value}
 pub record IsEnrolled (m : Machine) (w : World) (path : List ℕ) (handle : ℕ) (literal : Literal) (key : List ℕ) : Type 0 where
   pub tied : Tied m.state w
   pub safe : NoClash (Contains (w.hashed ++ (unseal_line path m).hashed))
-  pub token : content_of m.files path 256 ≡ Bytes (token_text (token.Literal handle literal))
+  pub written : content_of m.files path 256 ≡ Bytes (token_text (token.Literal handle literal))
   pub valid : IsToken (token.Literal handle literal)
   pub object : get w.objects handle ≡ Some (record { secret = key; binding = binding.Literal literal.hash literal.bank literal.pcr literal.value })
   pub slot : length m.state.sessions < 64

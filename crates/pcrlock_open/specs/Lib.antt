@@ -1,4 +1,5 @@
-pub mod Unseal
 pub mod Endings
-pub mod TokenRead
 pub mod Headline
+pub mod Stopped
+pub mod TokenRead
+pub mod Unseal

@@ -3,6 +3,7 @@ ghost use Rattle.std.specs.Prelude.{◌≡◌, ℕ, true, List as Sequence, Opti
 ghost use Rattle.std.specs.List.{Contains};
 ghost use Rattle.hash_bank.specs.HashedString.{NoClash};
 ghost use Rattle.policy_file.specs.TokenText.{IsLiteral, IsObject};
+ghost use Rattle.policy_session.specs.Kept.{Kept};
 ghost use Rattle.tpm_device.specs.Stored.{Holds};
 ghost use Rattle.tpm_model.specs.declared.parts.Parts.{Parts};
 ghost use Rattle.tpm_model.specs.Rules.{HasRules};
@@ -10,6 +11,7 @@ ghost use Rattle.pcrlock_line.specs.Causes.{HasCauses};
 ghost use Rattle.pcrlock_line.specs.Machine.{Machine, Tells};
 ghost use Rattle.pcrlock_line.specs.Outcome.{Gives};
 ghost use Rattle.pcrlock_open.specs.Endings.{IsOpened};
+ghost use Rattle.pcrlock_open.specs.Stopped.{Stopped};
 ghost use Rattle.pcrlock_open.specs.Unseal.{unseal_line};
 
 use crate::answers::reply_to;
@@ -34,18 +36,21 @@ fn open_on<T: Tpm>(
     ensures causes { HasCauses (0, 0, T.faults tpm.old, 0) (0, 0, T.faults tpm.new, 0) result }
     ensures told { (s : Parts) → T.live tpm.old ≡ Some s → T.stored tpm.old ≡ Some (Holds s) → HasRules s
         → IfOk result (λ reply. IsOpened literal.now object s reply (T.stored tpm.new)) }
+    ensures stops { (s : Parts) → T.live tpm.old ≡ Some s → T.stored tpm.old ≡ Some (Holds s) → HasRules s → IfErr result (λ _. Kept s (T.stored tpm.new)) }
 {
     let opened = unseal_literal(alloc, tpm, literal, object);
     reply_to(alloc, literal, &opened)
 }
 
 /// Makes the device ready and opens the object.
+#[tactic(auto, using(crate::proofs::Stops::kept_same))]
 fn open<T: Tpm>(alloc: Global, tpm: &mut T, literal: &Literal, object: u32) -> Result<Reply, Stop>
     requires literal { IsLiteral literal.now }
     requires object { IsObject object }
     ensures causes { HasCauses (0, 0, T.faults tpm.old, 0) (0, 0, T.faults tpm.new, 0) result }
     ensures told { (s : Parts) → T.stored tpm.old ≡ Some (Holds s) → HasRules s
         → IfOk result (λ reply. IsOpened literal.now object s reply (T.stored tpm.new)) }
+    ensures stops { (s : Parts) → T.stored tpm.old ≡ Some (Holds s) → HasRules s → IfErr result (λ _. Kept s (T.stored tpm.new)) }
 {
     match ready(alloc, tpm) {
         Ok(Ok(())) => open_on(alloc, tpm, literal, object),
@@ -85,6 +90,8 @@ pub fn unseal<F: Files, T: Tpm>(
     ensures told { (words : Option (Sequence (Sequence ℕ))) (m : Machine) → Tells (F.held files.old) (T.stored tpm.old) words m
         → NoClash (Contains (unseal_line path.now m).hashed)
         → IfOk result (λ reply. Gives (F.held files.new) (T.stored tpm.new) words reply (unseal_line path.now m)) }
+    ensures stops { (words : Option (Sequence (Sequence ℕ))) (m : Machine) → Tells (F.held files.old) (T.stored tpm.old) words m
+        → IfErr result (λ _. Stopped (F.held files.new) (T.stored tpm.new) words m) }
 {
     match token_at(alloc, files, path) {
         Ok(TokenRead::Literal { object, literal }) => open(alloc, tpm, &literal, object),
