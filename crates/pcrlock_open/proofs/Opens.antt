@@ -61,13 +61,15 @@ by_value (Some now) literal handle s object key found secret policy = split (byt
         → (cond b (object_ending (literal_policy literal.hash literal.bank literal.pcr now) handle (object_at handle s.objects)) (Refused (said.NotLiteral literal.pcr now literal.value)) ≡ Fine (key_text key))
         ↔ (Some now ≡ Some literal.value)
     split true e =
-        let same : now ≡ literal.value = (bytes_eq-Decides now literal.value).0 e in
-        (λ _. ap Some same,
-         λ _. opened_object (literal_policy literal.hash literal.bank literal.pcr now) handle s object key found secret
-             (ap (literal_policy literal.hash literal.bank literal.pcr) same ∙ sym policy))
-    split false e =
-        (λ h. absurd (cc h),
-         λ h. let same : now ≡ literal.value = cc in absurd (cc (sym e ∙ same_bytes now literal.value same)))
+        let same : now ≡ literal.value = (bytes_eq-Decides now literal.value).0 e in (
+          λ _. ap Some same,
+          λ _. opened_object (literal_policy literal.hash literal.bank literal.pcr now) handle s object key found secret
+              (ap (literal_policy literal.hash literal.bank literal.pcr) same ∙ sym policy),
+        )
+    split false e = (
+      λ h. absurd (cc h),
+      λ h. let same : now ≡ literal.value = cc in absurd (cc (sym e ∙ same_bytes now literal.value same)),
+    )
 
 -- where a session can start, the end is that by the value
 literal_is : (literal : Literal) (handle : ℕ) (s : Parts) → length s.sessions < 64 → s.next_session < 0x01000000
@@ -87,7 +89,7 @@ pub opens : (m : Machine) (w : World) (path : List ℕ) (handle : ℕ) (literal 
 opens m w path handle literal key h =
     let held = h.tied.objects handle _ h.object in
     subst (λ x. (x ≡ Fine (key_text key)) ↔ (present_value literal m.state ≡ Some literal.value)) (sym (ending_is m w path handle literal key h))
-      (by_value (present_value literal m.state) literal handle m.state held.object key held.found held.secret held.policy)
+    (by_value (present_value literal m.state) literal handle m.state held.object key held.found held.secret held.policy)
 
 -- so does the command, which gives the line
 pub given : (result : Result Reply Stop) (held : Option FileMap) (stored : Option Stored) (words : Option (List (List ℕ))) (m : Machine) (w : World) (path : List ℕ) (handle : ℕ) (literal : Literal) (key : List ℕ)

@@ -12,6 +12,10 @@ ghost use Rattle.pcrlock_line.specs.Machine.{Machine, Tells};
 ghost use Rattle.pcrlock_line.specs.Outcome.{Gives};
 ghost use Rattle.pcrlock_open.specs.Endings.{IsOpened};
 ghost use Rattle.pcrlock_open.specs.Stopped.{Stopped};
+ghost use Rattle.tpm_model.specs.World.{World};
+ghost use Rattle.policy_file.specs.declared.token.Literal.{Literal as LiteralValue};
+ghost use Rattle.pcrlock_line.specs.Outcome.{ending_of};
+ghost use Rattle.pcrlock_open.specs.Headline.{IsEnrolled, OpensExactly};
 ghost use Rattle.pcrlock_open.specs.Unseal.{unseal_line};
 
 use crate::answers::reply_to;
@@ -59,6 +63,27 @@ fn open<T: Tpm>(alloc: Global, tpm: &mut T, literal: &Literal, object: u32) -> R
     }
 }
 
+/// What `unseal` does.
+fn opened<F: Files, T: Tpm>(
+    alloc: Global,
+    files: &mut F,
+    tpm: &mut T,
+    path: &Name,
+) -> Result<Reply, Stop>
+    ensures causes { HasCauses (F.faults files.old, 0, T.faults tpm.old, 0) (F.faults files.new, 0, T.faults tpm.new, 0) result }
+    ensures told { (words : Option (Sequence (Sequence ℕ))) (m : Machine) → Tells (F.held files.old) (T.stored tpm.old) words m
+        → NoClash (Contains (unseal_line path.now m).hashed)
+        → IfOk result (λ reply. Gives (F.held files.new) (T.stored tpm.new) words reply (unseal_line path.now m)) }
+    ensures stops { (words : Option (Sequence (Sequence ℕ))) (m : Machine) → Tells (F.held files.old) (T.stored tpm.old) words m
+        → IfErr result (λ _. Stopped (F.held files.new) (T.stored tpm.new) words m) }
+{
+    match token_at(alloc, files, path) {
+        Ok(TokenRead::Literal { object, literal }) => open(alloc, tpm, &literal, object),
+        Ok(TokenRead::Refused(answer)) => Ok(Reply::Refused(answer)),
+        Err(stop) => Err(stop),
+    }
+}
+
 /// Prints the key of the token at the path, where the PCR that the token names has the token's
 /// value.
 ///
@@ -92,10 +117,11 @@ pub fn unseal<F: Files, T: Tpm>(
         → IfOk result (λ reply. Gives (F.held files.new) (T.stored tpm.new) words reply (unseal_line path.now m)) }
     ensures stops { (words : Option (Sequence (Sequence ℕ))) (m : Machine) → Tells (F.held files.old) (T.stored tpm.old) words m
         → IfErr result (λ _. Stopped (F.held files.new) (T.stored tpm.new) words m) }
+    // The key of an object of the world comes out exactly where its PCR holds the value that it was
+    // sealed to.
+    ensures headline { (words : Option (Sequence (Sequence ℕ))) (m : Machine) (w : World) (handle : ℕ) (literal : LiteralValue) (key : Sequence ℕ)
+        → Tells (F.held files.old) (T.stored tpm.old) words m → IsEnrolled m w path.now handle literal key
+        → IfOk result (λ reply. OpensExactly (ending_of reply) key literal m) }
 {
-    match token_at(alloc, files, path) {
-        Ok(TokenRead::Literal { object, literal }) => open(alloc, tpm, &literal, object),
-        Ok(TokenRead::Refused(answer)) => Ok(Reply::Refused(answer)),
-        Err(stop) => Err(stop),
-    }
+    opened(alloc, files, tpm, path)
 }
