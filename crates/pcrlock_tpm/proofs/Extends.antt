@@ -21,7 +21,11 @@ use Rattle.tpm_model.specs.declared.response.Counter.TheVariants as counter
 use Rattle.pcrlock_words.specs.declared.answer.Answer.TheVariants as said
 use Rattle.pcrlock_line.specs.Outcome.{Outcome, Fine, Refused}
 use Rattle.pcrlock_line.specs.Machine.{Machine, Tells}
-use Rattle.pcrlock_tpm.specs.Extend.{tpm_extend_line, extended_parts, StopsAround}
+use Rattle.tpm_model.specs.Binding.{Binding, Index, Literal}
+use Rattle.tpm_model.specs.Sessions.{object_at}
+use Rattle.tpm_model.specs.World.{World, extended_world}
+use Rattle.tpm_model.specs.Tied.{Tied, IsHeld, IsSoundBinding}
+use Rattle.pcrlock_tpm.specs.Extend.{tpm_extend_world, tpm_extend_line, extended_parts, StopsAround}
 
 -- the digests are the hashes of the bytes
 abbrev pub AreHashes : Digests → List ℕ → Type 0
@@ -74,3 +78,35 @@ extend_stops held stored now words m pcr digests bytes small h tells (inr next) 
       draws = tells.draws ∙ ap Some (sym (same_draws m pcr bytes (m.state.update_counter == 4294967295)));
       rules = subst HasRules there (keeps-pcr_extend pcr digests m.state tells.rules);
     })
+
+-- an extend leaves the objects
+same_objects : (m : Machine) (pcr : ℕ) (bytes : List ℕ) (last : Bool) → (cond {A = Outcome} last (ends m) (goes pcr bytes m)).after.state.objects ≡ m.state.objects
+same_objects m pcr bytes true = refl
+same_objects m pcr bytes false = refl
+
+-- a world that follows a state with the same objects stays tied
+follows : (s t : Parts) (w : World) → t.objects ≡ s.objects → Tied s w → Tied t (extended_world t w)
+follows s t w same tie = record {
+  banks = refl;
+  pcrs = refl;
+  objects = λ handle bound e. let held = tie.objects handle bound e in record {
+    object = held.object;
+    found = ap (object_at handle) same ∙ held.found;
+    secret = held.secret;
+    policy = held.policy;
+    sound = still_sound t w bound.binding held.sound;
+    strings = held.strings;
+  };
+  updates = tie.updates;
+  update_bindings = tie.update_bindings;
+  pins = tie.pins;
+  strange = tie.strange;
+}
+  where
+    still_sound : (t : Parts) (w : World) (b : Binding) → IsSoundBinding w b → IsSoundBinding (extended_world t w) b
+    still_sound t w (Index h pin) k = k
+    still_sound t w (Literal hash bank p value) k = k
+
+-- the world after `tpm-extend` is tied to the state that it leaves
+pub extend_tied : (m : Machine) (w : World) (pcr : ℕ) (bytes : List ℕ) → Tied m.state w → Tied (tpm_extend_line pcr bytes m).after.state (tpm_extend_world pcr bytes m w)
+extend_tied m w pcr bytes tie = follows m.state (tpm_extend_line pcr bytes m).after.state w (same_objects m pcr bytes (m.state.update_counter == 4294967295)) tie

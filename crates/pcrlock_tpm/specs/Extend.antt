@@ -7,6 +7,7 @@ use Rattle.tpm_model.specs.declared.response.Response.{Response}
 use Rattle.tpm_model.specs.declared.response.Response.TheVariants as answer
 use Rattle.tpm_model.specs.declared.parts.Parts.{Parts}
 use Rattle.tpm_model.specs.Pcrs.{after_digests}
+use Rattle.tpm_model.specs.World.{World, extended_world}
 use Rattle.tpm_device.specs.Stored.{Stored}
 use Rattle.pcrlock_words.specs.declared.answer.Answer.TheVariants as said
 use Rattle.pcrlock_line.specs.Machine.{Machine, Tells}
@@ -34,3 +35,7 @@ tpm_extend_line pcr bytes m =
 -- the objects tell one of two machines
 abbrev pub StopsAround : Option FileMap → Option Stored → Option (List (List ℕ)) → Machine → Machine → Type 0
 StopsAround held stored words before after = Tells held stored words before ⊎ Tells held stored words after
+
+-- the world after `tpm-extend`: it follows the state
+abbrev pub tpm_extend_world : ℕ → List ℕ → Machine → World → World
+tpm_extend_world pcr bytes m w = extended_world (tpm_extend_line pcr bytes m).after.state w

@@ -7,7 +7,9 @@ ghost use Rattle.pcrlock_line.specs.Outcome.{Gives};
 ghost use Rattle.pcrlock_line.specs.Causes.{HasCauses};
 ghost use Rattle.pl_base.specs.FileMap.{FileMap};
 ghost use Rattle.std.specs.Prelude.{Option, List as Sequence};
-ghost use Rattle.pcrlock_tpm.specs.Extend.{tpm_extend_line, is_extended as extends, StopsAround};
+ghost use Rattle.tpm_model.specs.World.{World};
+ghost use Rattle.tpm_model.specs.Tied.{Tied};
+ghost use Rattle.pcrlock_tpm.specs.Extend.{tpm_extend_world, tpm_extend_line, is_extended as extends, StopsAround};
 
 use hash_bank::hash_all;
 use pcrlock_line::{Reply, Stop, ask, ready};
@@ -31,6 +33,8 @@ pub fn tpm_extend<T: Tpm>(alloc: Global, tpm: &mut T, pcr: u8, bytes: &[u8]) -> 
         → IfOk result (λ reply. Gives held (T.stored tpm.new) words reply (tpm_extend_line pcr bytes.now m)) }
     ensures stops { (held : Option FileMap) (words : Option (Sequence (Sequence ℕ))) (m : Machine) → Tells held (T.stored tpm.old) words m
         → IfErr result (λ _. StopsAround held (T.stored tpm.new) words m (tpm_extend_line pcr bytes.now m).after) }
+    // A world that is tied to the state before follows the state, and stays tied.
+    ensures tied { (m : Machine) (w : World) → Tied m.state w → Tied (tpm_extend_line pcr bytes.now m).after.state (tpm_extend_world pcr bytes.now m w) }
 {
     if ready(alloc, tpm)?.is_err() {
         return Err(Stop::Memory);
