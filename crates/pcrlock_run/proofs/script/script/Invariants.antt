@@ -1,0 +1,24 @@
+use Rattle.std.proofs.Common.{◌≡◌, ℕ, List, length}
+use Rattle.std.specs.Prelude.{Some, Ok}
+use denote.Text.{Utf8}
+use denote.Shadow.{shadow}
+use Rattle.pcrlock_line.specs.Machine.{Machine, Tells}
+use Rattle.pcrlock_line.specs.Causes.{HasCauses}
+use Rattle.pcrlock_run.specs.Status.{number_of}
+use Rattle.pcrlock_run.specs.Lines.{lines_of}
+use Rattle.pcrlock_run.specs.Script.{script}
+use Rattle.pcrlock_run.specs.Leaves.{Safe}
+use Rattle.pcrlock_run.proofs.Folds.{Underway}
+use Rattle.pcrlock_run.proofs.script.script.Given as goal
+
+abbrev pub invariant-lines : goal.invariant-lines
+invariant-lines g l = record {
+  text : shadow (Utf8 l.rest);
+  causes : HasCauses {A = Unit {0}} (g.F.Files.faults l.fn.files, g.E.Entropy.faults l.fn.entropy, g.T.Tpm.faults l.fn.tpm, g.O.Sink.faults l.fn.out) (g.F.Files.faults l.files, g.E.Entropy.faults l.entropy, g.T.Tpm.faults l.tpm, g.O.Sink.faults l.out) (Ok tt);
+  told : (m : Machine) (before : List ℕ) → Tells (g.F.Files.held l.fn.files) (g.T.Tpm.stored l.fn.tpm) (g.E.Entropy.words l.fn.entropy) m → g.O.Sink.written l.fn.out ≡ Some before
+      → Safe (script (lines_of l.fn.text) l.fn.policy m).hashed
+      → Underway (g.F.Files.held l.files) (g.T.Tpm.stored l.tpm) (g.E.Entropy.words l.entropy) (g.O.Sink.written l.out) before l.fn.policy (lines_of l.rest) (number_of l.status) (script (lines_of l.fn.text) l.fn.policy m);
+}
+
+abbrev pub decreases-lines : goal.decreases-lines
+decreases-lines g l = length l.rest

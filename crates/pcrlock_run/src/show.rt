@@ -1,0 +1,60 @@
+//! What a command says: its text on standard output, or its answer on standard error.
+ghost use Rattle.std.specs.Prelude.{◌≡◌, ◌≤◌, ◌++◌, ℕ, Some, Option, List as Sequence, OnOk};
+ghost use Rattle.pl_base.specs.Faults.{Rose};
+ghost use Rattle.pcrlock_words.specs.Texts.{answer_text};
+ghost use Rattle.pcrlock_line.specs.Causes.{HasCauses};
+ghost use Rattle.pcrlock_line.specs.Outcome.{ending_of};
+ghost use Rattle.pcrlock_run.specs.Status.{out_of, err_of};
+
+use pcrlock_line::{Reply, Stop};
+use pcrlock_words::{Answer, answer_line};
+use pl_base::{Memory, Sink, SinkError};
+use std::alloc::Global;
+
+/// Writes the bytes on standard output, in one write.
+pub fn write<O: Sink>(alloc: Global, out: &mut O, bytes: &[u8]) -> Result<(), Stop>
+    ensures causes { HasCauses (0, 0, 0, O.faults out.old) (0, 0, 0, O.faults out.new) result }
+    ensures told { (before : Sequence ℕ) → O.written out.old ≡ Some before → OnOk result (O.written out.new ≡ Some (before ++ bytes.now)) }
+{
+    match out.write_all(alloc, bytes) {
+        Ok(()) => Ok(()),
+        Err(SinkError::Failed) => Err(Stop::WriteFault),
+        Err(SinkError::Memory) => Err(Stop::Memory),
+    }
+}
+
+/// Writes the answer's line on standard error. A failing write changes nothing else.
+pub fn tell<R: Sink>(alloc: Global, err: &mut R, answer: &Answer) -> Result<(), Memory>
+    ensures later { R.faults err.old ≤ R.faults err.new }
+    ensures told { (before : Sequence ℕ) → R.written err.old ≡ Some before → ¬ Rose (R.faults err.old) (R.faults err.new)
+        → OnOk result (R.written err.new ≡ Some (before ++ answer_text answer.now)) }
+{
+    let line = answer_line(alloc, answer)?;
+    match err.write_all(alloc, line.as_slice()) {
+        Ok(()) => Ok(()),
+        Err(SinkError::Failed) => Ok(()),
+        Err(SinkError::Memory) => Err(Memory),
+    }
+}
+
+/// Writes the text of a reply on standard output, or its answer on standard error.
+pub fn show<O: Sink, R: Sink>(
+    alloc: Global,
+    reply: &Reply,
+    out: &mut O,
+    err: &mut R,
+) -> Result<(), Stop>
+    ensures causes { HasCauses (0, 0, 0, O.faults out.old) (0, 0, 0, O.faults out.new) result }
+    ensures told { (before : Sequence ℕ) → O.written out.old ≡ Some before → OnOk result (O.written out.new ≡ Some (before ++ out_of (ending_of reply.now))) }
+    ensures later { R.faults err.old ≤ R.faults err.new }
+    ensures said { (before : Sequence ℕ) → R.written err.old ≡ Some before → ¬ Rose (R.faults err.old) (R.faults err.new)
+        → OnOk result (R.written err.new ≡ Some (before ++ err_of (ending_of reply.now))) }
+{
+    match reply {
+        Reply::Fine(text) => write(alloc, out, text.as_slice()),
+        Reply::Refused(answer) => {
+            tell(alloc, err, answer)?;
+            Ok(())
+        }
+    }
+}
