@@ -14,7 +14,7 @@ struct Case {
     status: u8,
 }
 
-const CASES: [Case; 5] = [
+const CASES: [Case; 6] = [
     Case {
         script: "",
         out: "",
@@ -44,6 +44,12 @@ const CASES: [Case; 5] = [
         out: "= 0\n= 2\n",
         err: "bad words\n",
         status: 2,
+    },
+    Case {
+        script: "tpm-extend --pcr 11 --text abc\nenroll --token t --literal 11 --key 00ff\nunseal --token t\ntpm-extend --pcr 11 --text abc\nunseal --token t\n",
+        out: "= 0\nenrolled 81000000\n= 0\nkey 00ff\n= 0\n= 0\n= 1\n",
+        err: "not literal: pcr 11 holds bdeb6c6dc63852834c89f67066194207ce7d3806ea40ca58dc079246ef58a926, sealed to 589f9ffed4c477966bfb8d41f37895b08c69047df8f911d6f3b57fbe08faee8d\n",
+        status: 1,
     },
 ];
 

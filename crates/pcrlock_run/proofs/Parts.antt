@@ -1,9 +1,10 @@
 -- The first line of a text, and those behind it.
-use Rattle.std.proofs.Common.{◌≡◌, ℕ, ◌<◌, Bool, true, false, cond, List, [], ◌∷◌, ◌++◌, length, refl, ap, ◌∙◌, get_or}
+use Rattle.std.proofs.Common.{◌≡◌, ℕ, ◌<◌, Bool, true, false, cond, List, [], ◌∷◌, ◌++◌, length, refl, ap, ◌∙◌, get_or, arith}
 use Rattle.std.specs.Prelude.{◌==◌, ◌≢◌, not}
 use Rattle.std.specs.List.{All, slice_split}
 use Rattle.std.proofs.lemmas.List.{get_or_default, append-nil}
 use Rattle.std.proofs.lemmas.Bool.{ne_eqb}
+use Rattle.std.proofs.lemmas.Bool.Decides.{nat_tests}
 use Rattle.std.proofs.lemmas.List.Splits.{slice_split_at, slice_split_none}
 use Rattle.pcrlock_words.specs.Lines.{words_of}
 use Rattle.pcrlock_run.specs.Lines.{is_line_feed, is_passed_over, lines_among, lines_of}
@@ -43,6 +44,9 @@ one_part text none = ap lines_among (slice_split_none is_line_feed text (all_oth
 pub only_line : (text : List ℕ) → HasNoFeed text → lines_of text ≡ lines_among (text ∷ []) ++ lines_of []
 only_line text none = rw (no_lines, append-nil) (one_part text none)
 
+is_zero : (n : ℕ) → (n == 0) ≡ true → n ≡ 0
+is_zero n zero = grind (arith, nat_tests)
+
 pub nothing_left : (text : List ℕ) → (length text == 0) ≡ true → lines_of text ≡ []
 nothing_left [] none = no_lines
-nothing_left (byte ∷ text) none = absurd (cc none)
+nothing_left (byte ∷ text) none = absurd (omega (arith, is_zero (length (byte ∷ text)) none))
