@@ -13,6 +13,7 @@ use tpm_device::SoftTpm;
 use tpm_model::State;
 
 /// Why the words of the process can't be run.
+#[derive(Drop)]
 enum Refusal {
     /// A word isn't UTF-8.
     BadWords,
