@@ -1,5 +1,0 @@
-//! Whole runs of the program over files, a TPM, random words and outputs in memory.
-#![tactic(auto)]
-
-#[cfg(test)]
-mod scripts;
