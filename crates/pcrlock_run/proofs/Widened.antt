@@ -93,3 +93,13 @@ pub fault_cause : {A : Type 0} (a b : Counts) (result : Result A Stop) (stop : S
     → (number ≡ stop_number stop) ⊎ (number ≡ 6) → number ≡ 5 → Rose a.0 b.0 ⊎ (Rose a.1 b.1 ⊎ (Rose a.2 b.2 ⊎ Rose a.3 b.3))
 fault_cause a b result stop number h is (inl same) five = cause_of a b stop (h.cause stop is) (sym same ∙ five)
 fault_cause a b result stop number h is (inr six) five = absurd (omega (arith, six, five))
+
+-- beside the count of the entropy
+pub beside_entropy : {A : Type 0} (f t f2 t2 e : ℕ) (result : Result A Stop) → HasCauses (f, 0, t, 0) (f2, 0, t2, 0) result → HasCauses (f, e, t, 0) (f2, e, t2, 0) result
+beside_entropy f t f2 t2 e result h = record {
+  files = h.files;
+  entropy = omega arith;
+  tpm = h.tpm;
+  out = omega arith;
+  cause = λ stop is. caused_by (f, 0, t, 0) (f2, 0, t2, 0) (f, e, t, 0) (f2, e, t2, 0) stop (λ r. r) unmoved (λ r. r) unmoved (h.cause stop is);
+}

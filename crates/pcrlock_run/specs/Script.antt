@@ -10,18 +10,30 @@ use Rattle.pcrlock_words.specs.Lines.{words_of}
 use Rattle.pcrlock_words.specs.Texts.{status_text}
 use Rattle.pcrlock_line.specs.Machine.{Machine}
 use Rattle.pcrlock_line.specs.Outcome.{Outcome, Fine, Refused}
+use Rattle.hash_bank.specs.declared.bank.Bank.{Bank}
 use Rattle.pcrlock_tpm.specs.Extend.{tpm_extend_line}
+use Rattle.pcrlock_seal.specs.Enroll.{enroll_line}
+use Rattle.pcrlock_open.specs.Unseal.{unseal_line}
 use Rattle.pcrlock_run.specs.Status.{status_of, out_of, err_of}
 
 -- a command that didn't do its work, and changed nothing
 abbrev pub refused : Answer → Machine → Outcome
 refused answer m = record { ending = Refused answer; after = m; hashed = [] }
 
+-- `enroll` under the present value of a PCR; one without a PCR is no command yet
+unfoldable pub enroll_outcome : List ℕ → Option (List ℕ) → Option ℕ → Bank → Machine → Outcome
+enroll_outcome token key (Some pcr) bank m = if nat_le pcr 23 then enroll_line token pcr bank key m else refused answers.BadWords m
+enroll_outcome token key None bank m = refused answers.BadWords m
+
+-- `unseal` of a token
+unfoldable pub unseal_outcome : List ℕ → Machine → Outcome
+unseal_outcome token m = unseal_line token m
+
 -- what a command does, by cases; a script inside a script is no command
 unfoldable pub command_line : Request → Machine → Outcome
 command_line (requests.TpmExtend pcr bytes) m = if nat_le pcr 23 then tpm_extend_line pcr bytes m else refused answers.BadWords m
-command_line (requests.Enroll token policy key literal bank) m = refused answers.BadWords m
-command_line (requests.Unseal token policy) m = refused answers.BadWords m
+command_line (requests.Enroll token policy key literal bank) m = enroll_outcome token key literal bank m
+command_line (requests.Unseal token policy) m = unseal_outcome token m
 command_line (requests.Script file policy index) m = refused answers.BadWords m
 
 -- what words do that spell a request, or none

@@ -3,15 +3,61 @@ ghost use Rattle.std.specs.Prelude.{◌≡◌, ℕ, Some, Option, List as Sequen
 ghost use Rattle.pcrlock_line.specs.Machine.{Machine, Tells};
 ghost use Rattle.pcrlock_line.specs.Outcome.{Gives};
 ghost use Rattle.pcrlock_line.specs.Causes.{HasCauses};
-ghost use Rattle.pcrlock_run.specs.Script.{command_line, line as line_outcome};
+ghost use Rattle.pcrlock_run.specs.Script.{command_line, enroll_outcome, unseal_outcome, line as line_outcome};
 ghost use Rattle.pcrlock_run.specs.Leaves.{Safe};
 
+use hash_bank::Bank;
 use pcrlock_line::{Reply, Stop};
+use pcrlock_open::unseal;
+use pcrlock_seal::enroll;
 use pcrlock_tpm::tpm_extend;
 use pcrlock_words::{Answer, Request, WordsError, read_words};
-use pl_base::{Entropy, Files, Name};
+use pl_base::{Entropy, Files, Name, Small};
 use std::alloc::Global;
 use tpm_device::Tpm;
+
+/// Enrolls under the present value of a PCR.
+#[tactic(auto, unfolding(crate::specs::Script::enroll_outcome))]
+fn enroll_literal<F: Files, T: Tpm, E: Entropy>(
+    alloc: Global,
+    files: &mut F,
+    tpm: &mut T,
+    entropy: &mut E,
+    token: &Name,
+    key: &Option<Small>,
+    literal: Option<u8>,
+    bank: Bank,
+) -> Result<Reply, Stop>
+    ensures causes { HasCauses (F.faults files.old, E.faults entropy.old, T.faults tpm.old, 0) (F.faults files.new, E.faults entropy.new, T.faults tpm.new, 0) result }
+    ensures told { (m : Machine) → Tells (F.held files.old) (T.stored tpm.old) (E.words entropy.old) m
+        → IfOk result (λ reply. Gives (F.held files.new) (T.stored tpm.new) (E.words entropy.new) reply (enroll_outcome token.now key.now literal bank m)) }
+{
+    match literal {
+        Some(pcr) => {
+            if pcr <= 23 {
+                enroll(alloc, files, tpm, entropy, token, *key, pcr, bank)
+            } else {
+                Ok(Reply::Refused(Answer::BadWords))
+            }
+        }
+        None => Ok(Reply::Refused(Answer::BadWords)),
+    }
+}
+
+/// Opens the object of a token.
+#[tactic(auto, unfolding(crate::specs::Script::unseal_outcome))]
+fn unseal_token<F: Files, T: Tpm>(
+    alloc: Global,
+    files: &mut F,
+    tpm: &mut T,
+    token: &Name,
+) -> Result<Reply, Stop>
+    ensures causes { HasCauses (F.faults files.old, 0, T.faults tpm.old, 0) (F.faults files.new, 0, T.faults tpm.new, 0) result }
+    ensures told { (words : Option (Sequence (Sequence ℕ))) (m : Machine) → Tells (F.held files.old) (T.stored tpm.old) words m → Safe (unseal_outcome token.now m).hashed
+        → IfOk result (λ reply. Gives (F.held files.new) (T.stored tpm.new) words reply (unseal_outcome token.now m)) }
+{
+    unseal(alloc, files, tpm, token)
+}
 
 /// Runs the command of a request. A script is no command of a script.
 #[tactic(auto, unfolding(crate::specs::Script::command_line))]
@@ -34,9 +80,15 @@ pub fn command<F: Files, T: Tpm, E: Entropy>(
                 Ok(Reply::Refused(Answer::BadWords))
             }
         }
-        Request::Enroll { .. } | Request::Unseal { .. } | Request::Script { .. } => {
-            Ok(Reply::Refused(Answer::BadWords))
-        }
+        Request::Enroll {
+            token,
+            key,
+            literal,
+            bank,
+            ..
+        } => enroll_literal(alloc, files, tpm, entropy, token, key, *literal, *bank),
+        Request::Unseal { token, .. } => unseal_token(alloc, files, tpm, token),
+        Request::Script { .. } => Ok(Reply::Refused(Answer::BadWords)),
     }
 }
 
