@@ -1,0 +1,105 @@
+//! The program `pcrlock`: the words of the process are run over the files of the system, its random
+//! words and its standard output and error, and the status is the exit status of the process. The TPM
+//! is a fresh one in memory, which ends with the process.
+#![tactic(auto)]
+
+use hash_bank::Banks;
+use pcrlock_run::run;
+use pl_base::{List, Memory, Name, RealEntropy, RealFiles, RealSink, Sink};
+use std::alloc::Global;
+use std::process::ExitCode;
+use std::{env, io};
+use tpm_device::SoftTpm;
+use tpm_model::State;
+
+/// Why the words of the process can't be run.
+#[derive(Drop)]
+enum Refusal {
+    /// A word isn't UTF-8.
+    BadWords,
+    /// Memory ran out.
+    Memory,
+}
+
+impl From<Memory> for Refusal {
+    fn from(_error: Memory) -> Refusal {
+        Refusal::Memory
+    }
+}
+
+impl Refusal {
+    /// The line on standard error.
+    fn line(&self) -> &'static [u8] {
+        match self {
+            Refusal::BadWords => b"bad words\n",
+            Refusal::Memory => b"no memory\n",
+        }
+    }
+
+    /// The exit status.
+    fn status(&self) -> u8 {
+        match self {
+            Refusal::BadWords => 2,
+            Refusal::Memory => 6,
+        }
+    }
+}
+
+/// The words of the process behind the program's name.
+fn words(rt: &HostRuntime) -> Result<List<Name>, Refusal> {
+    let mut args = match env::args(rt) {
+        Ok(args) => args,
+        Err(error) => {
+            return Err(if error.kind() == io::ErrorKind::OutOfMemory {
+                Refusal::Memory
+            } else {
+                Refusal::BadWords
+            });
+        }
+    };
+    let _program = args.next();
+    let alloc = rt.alloc();
+    let mut words = List::new(alloc);
+    for arg in args {
+        words.push(Name::from_text(alloc, arg.as_str())?)?;
+    }
+    Ok(words)
+}
+
+/// Runs the words of the process, and gives its exit status.
+fn run_process<O: Sink, R: Sink>(
+    rt: &HostRuntime,
+    out: &mut O,
+    err: &mut R,
+) -> Result<u8, Refusal> {
+    let alloc = rt.alloc();
+    let words = words(rt)?;
+    let mut tpm = SoftTpm::new(State::fresh(alloc, Banks::all())?, List::new(alloc));
+    let mut files = RealFiles::new(rt);
+    let mut entropy = RealEntropy::new(rt);
+    Ok(run(
+        alloc,
+        words.as_slice(),
+        &mut files,
+        &mut tpm,
+        &mut entropy,
+        out,
+        err,
+    ))
+}
+
+/// Tells a refusal, and gives the exit status.
+fn refuse<R: Sink>(alloc: Global, refusal: &Refusal, err: &mut R) -> u8 {
+    let _told = err.write_all(alloc, refusal.line());
+    refusal.status()
+}
+
+fn main(rt: HostRuntime) -> ExitCode {
+    let mut out = RealSink::new(rt.stdout());
+    let mut err = RealSink::new(rt.stderr());
+    let status = match run_process(&rt, &mut out, &mut err) {
+        Ok(status) => status,
+        Err(refusal) => refuse(rt.alloc(), &refusal, &mut err),
+    };
+    ExitCode::from(status)
+}

@@ -1,0 +1,5 @@
+//! Whole runs of the program over files, a TPM, random words and outputs in memory.
+#![tactic(auto)]
+
+#[cfg(test)]
+mod scripts;
