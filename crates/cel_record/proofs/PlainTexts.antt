@@ -1,5 +1,5 @@
 -- Written records have printable ASCII alone: they are UTF-8, and hold no separator of a text sequence.
-use Rattle.std.proofs.Common.{◌≡◌, ◌≤◌, ◌<◌, ◌/◌, ◌%◌, ◌&&◌, ℕ, zero, suc, Bool, true, false, nat_le, nat_lt, List, [], ◌∷◌, ◌++◌, length, codes, decimal, flat_map, Option, Some, None, refl, sym, ap, ◌∙◌, inl, inr, arith, ltb-true}
+use Rattle.std.proofs.Common.{◌≡◌, ◌≤◌, ◌<◌, ◌/◌, ◌%◌, ◌&&◌, ℕ, zero, suc, Bool, true, nat_le, nat_lt, List, [], ◌∷◌, ◌++◌, codes, decimal, flat_map, Option, Some, None, refl, sym, ap, ◌∙◌, inl, inr, arith, ltb-true}
 use Rattle.std.specs.Prelude.{slice_index}
 use Rattle.std.specs.Str.{IsAscii, IsUtf8}
 use Rattle.std.specs.Fmt.{digits}

@@ -1,6 +1,6 @@
 -- What it means that a JSON value is a record, whatever order its members stand in (TCG Canonical
 -- Event Log, in JSON).
-use Rattle.std.specs.Prelude.{◌≡◌, ◌≤◌, ◌⊎◌, ◌↔◌, ℕ, List, codes, Option, Some, Ok, IsOk, ⊤}
+use Rattle.std.specs.Prelude.{◌≡◌, ◌≤◌, ◌⊎◌, ◌↔◌, ℕ, List, codes, Some, Ok, IsOk, ⊤}
 use Rattle.serde_json.specs.Data.{Data, Items, no_items, item}
 use Rattle.hash_bank.specs.declared.bank.Bank.{Bank}
 use Rattle.cel_record.specs.JsonValue.{unsigned_at, array_at}

@@ -7,6 +7,7 @@
 mod component;
 mod digests;
 mod error;
+mod grammar;
 mod kind;
 mod member;
 mod reader;
@@ -18,6 +19,7 @@ mod writer;
 
 pub use component::read_records;
 pub use error::RecordsError;
+pub use grammar::records_are_exact;
 pub use kind::RecordKind;
 pub use reader::read_record;
 pub use record::CelRecord;

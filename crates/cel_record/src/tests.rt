@@ -1,6 +1,6 @@
 //! Records, refusals and texts against expected values of the format.
 use crate::{CelRecord, RecordKind, RecordsError, read_records, record_text, write_cel};
-use hash_bank::{Bank, Digest, Digests};
+use hash_bank::{Digest, Digests};
 use std::alloc::Global;
 use std::test::Fail;
 
@@ -98,12 +98,14 @@ fn refuses_each_kind_of_record(rt: HostRuntime) -> Result<(), Fail> {
         refusal(alloc, text.as_str()),
         Some(RecordsError::BadRecord { number: 1, kind })
     );
-    let text = "[7]";
-    let kind = RecordKind::NotObject;
-    assert_eq!(rt;
-        refusal(alloc, text),
-        Some(RecordsError::BadRecord { number: 0, kind })
-    );
+    for (text, kind) in [
+        ("[7]", RecordKind::NotObject),
+        ("[{\"digests\":[]}]", RecordKind::Pcr),
+        ("[{\"pcr\":1}]", RecordKind::Digests),
+    ] {
+        let wanted = RecordsError::BadRecord { number: 0, kind };
+        assert_eq!(rt; refusal(alloc, text), Some(wanted), "{text}");
+    }
     Ok(())
 }
 
@@ -155,18 +157,20 @@ fn refuses_what_is_no_list(rt: HostRuntime) -> Result<(), Fail> {
     Ok(())
 }
 
-// The record of PCR 11 with the digest of SHA-256 that `SHA256` has.
+// The record of PCR 11 with the digests of `SHA1` and `SHA256`.
 fn record_of_eleven() -> Option<CelRecord> {
-    let digest = Digest::from_hex(
-        Bank::Sha256,
-        "0000000000000000000000000000000000000000000000000000000000000001",
-    )
-    .ok()?;
+    let first = Digest::from_slice(b"\xad\0\0\0\0\0\0\0\0\0\0\0\0\0\0\0\0\0\0\xfe")?;
+    let second = Digest::from_slice(
+        b"\0\0\0\0\0\0\0\0\0\0\0\0\0\0\0\0\0\0\0\0\0\0\0\0\0\0\0\0\0\0\0\x01",
+    )?;
+    if first.as_slice().len() != 20 || second.as_slice().len() != 32 {
+        return None;
+    }
     Some(CelRecord {
         pcr: 11,
         digests: Digests {
-            sha1: None,
-            sha256: Some(digest),
+            sha1: Some(first),
+            sha256: Some(second),
             sha384: None,
             sha512: None,
         },
@@ -177,7 +181,7 @@ fn record_of_eleven() -> Option<CelRecord> {
 fn reads_and_writes_records(rt: HostRuntime) -> Result<(), Fail> {
     let alloc = rt.alloc();
     let one = format!(in alloc;
-        "{{\"recnum\":9,\"pcr\":1,\"pcr\":11,\"digests\":[{SM3},{SHA256}],\"more\":[{{}}]}}"
+        "{{\"recnum\":9,\"pcr\":1,\"pcr\":11,\"digests\":[{SM3},{SHA256},{SHA1}],\"more\":[{{}}]}}"
     )?;
     let text = format!(in alloc; "{{\"records\":[{one}]}}")?;
     let Ok(records) = read_records(alloc, text.as_bytes()) else {
@@ -188,8 +192,10 @@ fn reads_and_writes_records(rt: HostRuntime) -> Result<(), Fail> {
     let none = write_cel(alloc, &[])?;
     assert_eq!(rt; none.as_slice(), b"[]".as_slice());
     let written = write_cel(alloc, [wanted, wanted].as_slice())?;
-    let digest =
+    let sha1 = "{\"digest\":\"ad000000000000000000000000000000000000fe\",\"hashAlg\":\"sha1\"}";
+    let sha256 =
         "{\"digest\":\"0000000000000000000000000000000000000000000000000000000000000001\",\"hashAlg\":\"sha256\"}";
+    let digest = format!(in alloc; "{sha1},{sha256}")?;
     let text = format!(in alloc;
         "[{{\"digests\":[{digest}],\"pcr\":11,\"recnum\":0}},{{\"digests\":[{digest}],\"pcr\":11,\"recnum\":1}}]"
     )?;

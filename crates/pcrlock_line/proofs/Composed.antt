@@ -54,3 +54,103 @@ then_ends a b c first second x h k = record {
   out = omega (arith, h.out, k.out);
   cause = λ other same. absurd (cc same);
 }
+
+-- no count rises from 0 to 0
+none_rose : {X : Type 0} → Rose 0 0 → X
+none_rose r = absurd (omega (arith, r))
+
+-- a step of the TPM alone, seen beside the counts of all objects
+pub on_tpm : {A : Type 0} (files entropy out before now : ℕ) (result : Result A Stop) → HasCauses (0, 0, before, 0) (0, 0, now, 0) result
+    → HasCauses (files, entropy, before, out) (files, entropy, now, out) result
+on_tpm files entropy out before now result h = record {
+  files = omega arith;
+  entropy = omega arith;
+  tpm = h.tpm;
+  out = omega arith;
+  cause = λ stop e. on stop (h.cause stop e);
+}
+  where
+    on : (stop : Stop) → IsCaused (0, 0, before, 0) (0, 0, now, 0) stop → IsCaused (files, entropy, before, out) (files, entropy, now, out) stop
+    on ReadFault r = none_rose r
+    on WriteFault (inl r) = none_rose r
+    on WriteFault (inr r) = none_rose r
+    on EntropyFault r = none_rose r
+    on TpmFault r = r
+    on Memory r = tt
+
+-- a step of the files alone
+pub on_files : {A : Type 0} (entropy tpm out before now : ℕ) (result : Result A Stop) → HasCauses (before, 0, 0, 0) (now, 0, 0, 0) result
+    → HasCauses (before, entropy, tpm, out) (now, entropy, tpm, out) result
+on_files entropy tpm out before now result h = record {
+  files = h.files;
+  entropy = omega arith;
+  tpm = omega arith;
+  out = omega arith;
+  cause = λ stop e. on stop (h.cause stop e);
+}
+  where
+    on : (stop : Stop) → IsCaused (before, 0, 0, 0) (now, 0, 0, 0) stop → IsCaused (before, entropy, tpm, out) (now, entropy, tpm, out) stop
+    on ReadFault r = r
+    on WriteFault (inl r) = inl r
+    on WriteFault (inr r) = none_rose r
+    on EntropyFault r = none_rose r
+    on TpmFault r = none_rose r
+    on Memory r = tt
+
+-- a step of the entropy alone
+pub on_entropy : {A : Type 0} (files tpm out before now : ℕ) (result : Result A Stop) → HasCauses (0, before, 0, 0) (0, now, 0, 0) result
+    → HasCauses (files, before, tpm, out) (files, now, tpm, out) result
+on_entropy files tpm out before now result h = record {
+  files = omega arith;
+  entropy = h.entropy;
+  tpm = omega arith;
+  out = omega arith;
+  cause = λ stop e. on stop (h.cause stop e);
+}
+  where
+    on : (stop : Stop) → IsCaused (0, before, 0, 0) (0, now, 0, 0) stop → IsCaused (files, before, tpm, out) (files, now, tpm, out) stop
+    on ReadFault r = none_rose r
+    on WriteFault (inl r) = none_rose r
+    on WriteFault (inr r) = none_rose r
+    on EntropyFault r = r
+    on TpmFault r = none_rose r
+    on Memory r = tt
+
+-- a step without the entropy
+pub on_files_tpm : {A : Type 0} (entropy out f g t u : ℕ) (result : Result A Stop) → HasCauses (f, 0, t, 0) (g, 0, u, 0) result
+    → HasCauses (f, entropy, t, out) (g, entropy, u, out) result
+on_files_tpm entropy out f g t u result h = record {
+  files = h.files;
+  entropy = omega arith;
+  tpm = h.tpm;
+  out = omega arith;
+  cause = λ stop e. on stop (h.cause stop e);
+}
+  where
+    on : (stop : Stop) → IsCaused (f, 0, t, 0) (g, 0, u, 0) stop → IsCaused (f, entropy, t, out) (g, entropy, u, out) stop
+    on ReadFault r = r
+    on WriteFault (inl r) = inl r
+    on WriteFault (inr r) = none_rose r
+    on EntropyFault r = none_rose r
+    on TpmFault r = r
+    on Memory r = tt
+
+-- the step after one that ended well has the causes of both
+pub then : {A B : Type 0} (a b c : Counts) (first : Result A Stop) (second : Result B Stop) → HasCauses a b first → HasCauses b c second → HasCauses a c second
+then a b c first second h k = record {
+  files = omega (arith, h.files, k.files);
+  entropy = omega (arith, h.entropy, k.entropy);
+  tpm = omega (arith, h.tpm, k.tpm);
+  out = omega (arith, h.out, k.out);
+  cause = λ stop e. caused_since a b c stop h.files h.entropy h.tpm h.out (k.cause stop e);
+}
+
+-- want of memory needs no cause
+pub memory : {A D : Type 0} (a b : Counts) (first : Result A Stop) → HasCauses a b first → HasCauses {A = D} a b (Err Memory)
+memory a b first h = record {
+  files = h.files;
+  entropy = h.entropy;
+  tpm = h.tpm;
+  out = h.out;
+  cause = λ other same. let same_stop : Memory ≡ other = cc in subst (IsCaused a b) same_stop tt;
+}

@@ -1,2 +1,3 @@
 pub mod Refusals
 pub mod Composed
+pub mod Replaced

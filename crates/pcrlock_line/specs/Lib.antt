@@ -3,3 +3,4 @@ pub mod Outcome
 pub mod Causes
 pub mod Content
 pub mod Asked
+pub mod Changes

@@ -3,11 +3,13 @@
 //! of each command stands in the crate of its group, above this one.
 #![tactic(auto)]
 
+mod changing;
 mod device;
 mod reading;
 mod reply;
 mod stop;
 
+pub use crate::changing::{draw, replace_file};
 pub use crate::device::{ask, ready};
 pub use crate::reading::{Found, read_file};
 pub use crate::reply::Reply;

@@ -1,0 +1,41 @@
+//! Files that a command writes, and random words that it draws.
+ghost use Rattle.std.specs.Prelude.{◌≡◌, ◌⊎◌, ◌∷◌, ℕ, List as Sequence, Some, IfOk, IfErr, OnOk};
+ghost use Rattle.std.specs.FinMap.{insert};
+ghost use Rattle.pl_base.specs.FileMap.{FileMap};
+ghost use Rattle.pcrlock_line.specs.Changes.{IsDrawn};
+ghost use Rattle.pcrlock_line.specs.Causes.{HasCauses};
+
+use crate::Stop;
+use pl_base::{Entropy, Files, ReplaceError};
+use std::alloc::Global;
+
+/// Sets the bytes of the file at the path. After a stop the file is the old or the new one.
+pub fn replace_file<F: Files>(
+    alloc: Global,
+    files: &mut F,
+    path: &str,
+    bytes: &[u8],
+) -> Result<(), Stop>
+    ensures causes { HasCauses (F.faults files.old, 0, 0, 0) (F.faults files.new, 0, 0, 0) result }
+    ensures told { (held : FileMap) → F.held files.old ≡ Some held → OnOk result (F.held files.new ≡ Some (insert held path.now bytes.now)) }
+    ensures stops { (held : FileMap) → F.held files.old ≡ Some held
+        → IfErr result (λ _. (F.held files.new ≡ Some held) ⊎ (F.held files.new ≡ Some (insert held path.now bytes.now))) }
+{
+    match files.replace(alloc, path, bytes) {
+        Ok(()) => Ok(()),
+        Err(ReplaceError::Failed) => Err(Stop::WriteFault),
+        Err(ReplaceError::Memory) => Err(Stop::Memory),
+    }
+}
+
+/// Draws a random word of 32 bytes. After a stop the words to come are as before.
+pub fn draw<E: Entropy>(entropy: &mut E) -> Result<[u8; 32], Stop>
+    ensures causes { HasCauses (0, E.faults entropy.old, 0, 0) (0, E.faults entropy.new, 0, 0) result }
+    ensures told { (words : Sequence (Sequence ℕ)) → E.words entropy.old ≡ Some words → IfOk result (λ word. IsDrawn words word (E.words entropy.new)) }
+    ensures stops { (words : Sequence (Sequence ℕ)) → E.words entropy.old ≡ Some words → IfErr result (λ _. E.words entropy.new ≡ Some words) }
+{
+    match entropy.fill32() {
+        Ok(word) => Ok(word),
+        Err(_) => Err(Stop::EntropyFault),
+    }
+}

@@ -1,0 +1,3 @@
+pub mod Unseal
+pub mod Endings
+pub mod TokenRead

@@ -1,0 +1,4 @@
+pub mod PcrReads
+pub mod Sealed
+pub mod Objects
+pub mod Enrolled

@@ -1,0 +1,8 @@
+use Rattle.pcrlock_line.proofs.Composed.{stops, on_tpm}
+use Rattle.pcrlock_seal.proofs.enrolling.with_device.Goals as goal
+
+pub returns-in-Err-clause-causes : goal.returns-in-Err-clause-causes
+returns-in-Err-clause-causes g c =
+    let F = g.F.Files.faults in let E = g.E.Entropy.faults in let T = g.T.Tpm.faults in
+    stops (F c.args.files.now, E c.args.entropy.now, T c.args.tpm.now, 0) (F c.args.files.now, E c.args.entropy.now, T c.present_value.new.tpm, 0) c.present_value.result c.in-Err.stop
+    (on_tpm (F c.args.files.now) (E c.args.entropy.now) 0 (T c.args.tpm.now) (T c.present_value.new.tpm) c.present_value.result c.present_value.ensures.causes) c.in-Err.is

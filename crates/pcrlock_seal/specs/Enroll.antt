@@ -1,0 +1,86 @@
+-- What `enroll` does with the value of a PCR: it seals a key to that value and writes the token.
+use Rattle.std.specs.Prelude.{◌≡◌, ℕ, ◌&&◌, nat_le, if◌then◌else◌, List, [], ◌∷◌, ◌++◌, codes, Option, None, Some}
+use Rattle.std.specs.FinMap.{insert}
+use Rattle.hash_bank.specs.declared.bank.Bank.{Bank}
+use Rattle.hash_bank.specs.declared.bank.Bank.TheVariants.{Sha1, Sha256, Sha384, Sha512}
+use Rattle.policy_digest.specs.BindingStrings.{literal_strings}
+use Rattle.policy_file.specs.declared.token.Literal.{Literal}
+use Rattle.policy_file.specs.declared.token.Token.TheVariants as token
+use Rattle.policy_file.specs.TokenText.{token_text}
+use Rattle.tpm_model.specs.declared.response.Response.{Response}
+use Rattle.tpm_model.specs.declared.response.Response.TheVariants as answer
+use Rattle.tpm_model.specs.declared.response.Refusal.{Refusal}
+use Rattle.tpm_model.specs.declared.response.Refusal.TheVariants as refusal
+use Rattle.tpm_model.specs.declared.parts.Parts.{Parts}
+use Rattle.tpm_model.specs.Pcrs.{pcr_of}
+use Rattle.tpm_model.specs.Binding.{literal_policy}
+use Rattle.tpm_model.specs.ObjectCommands.{seal}
+use Rattle.pcrlock_words.specs.declared.answer.Answer.{Answer}
+use Rattle.pcrlock_words.specs.declared.answer.Answer.TheVariants as said
+use Rattle.pcrlock_words.specs.Texts.{enrolled_text}
+use Rattle.pcrlock_line.specs.Machine.{Machine}
+use Rattle.pcrlock_line.specs.Outcome.{Outcome, Fine, Refused}
+
+-- a literal's hash: SHA-384 for the two longest banks, else SHA-256
+abbrev pub literal_hash : Bank → Bank
+literal_hash Sha1 = Sha256
+literal_hash Sha256 = Sha256
+literal_hash Sha384 = Sha384
+literal_hash Sha512 = Sha384
+
+-- the handle of a sealed object
+abbrev pub sealed_handle : Response → Option ℕ
+sealed_handle (answer.Object handle) =
+    if nat_le 0x81000000 handle && nat_le handle 0x817FFFFF then Some handle else None
+sealed_handle _ = None
+
+-- why nothing was sealed: the table of objects is full, or their numbers have ended
+abbrev pub refusal_of : Refusal → Answer
+refusal_of refusal.HandlesEnd = said.Limit (codes "handles") 0x00800000
+refusal_of _ = said.Limit (codes "objects") 65
+
+abbrev pub seal_refusal : Response → Answer
+seal_refusal (answer.Refused why) = refusal_of why
+seal_refusal _ = said.Limit (codes "objects") 65
+
+-- the object was sealed: its token is written, and its handle printed
+abbrev pub token_written : List ℕ → Literal → Option ℕ → Response → Parts → Machine → Outcome
+token_written path literal (Some handle) response s m = record {
+  ending = Fine (enrolled_text handle);
+  after = record m { files = insert m.files path (token_text (token.Literal handle literal)); state = s };
+  hashed = literal_strings literal.hash literal.bank literal.pcr literal.value;
+}
+token_written path literal None response s m = record {
+  ending = Refused (seal_refusal response);
+  after = record m { state = s };
+  hashed = literal_strings literal.hash literal.bank literal.pcr literal.value;
+}
+
+-- the key is sealed to the policy of the literal
+abbrev pub key_sealed : List ℕ → Literal → List ℕ → Machine → Outcome
+key_sealed path literal key m =
+    let r = seal (literal_policy literal.hash literal.bank literal.pcr literal.value) key m.state in
+    token_written path literal (sealed_handle r.0) r.0 r.1 m
+
+-- the key is the one given, or the next random word; where none is left, none can be drawn
+abbrev pub with_key : List ℕ → Literal → Option (List ℕ) → List (List ℕ) → Machine → Outcome
+with_key path literal (Some key) draws m = key_sealed path literal key m
+with_key path literal None (word ∷ rest) m = key_sealed path literal word (record m { draws = rest })
+with_key path literal None [] m = record {
+  ending = Refused said.EntropyFault;
+  after = m;
+  hashed = literal_strings literal.hash literal.bank literal.pcr literal.value;
+}
+
+-- the literal that the present value of a PCR makes
+abbrev pub literal_now : Bank → ℕ → List ℕ → Literal
+literal_now bank pcr value = record { hash = literal_hash bank; bank = bank; pcr = pcr; value = value }
+
+-- the PCR's value, or that its bank isn't present
+abbrev pub with_value : List ℕ → ℕ → Bank → Option (List ℕ) → Option (List ℕ) → Machine → Outcome
+with_value path pcr bank key None m = record { ending = Refused (said.BankAbsent bank); after = m; hashed = [] }
+with_value path pcr bank key (Some value) m = with_key path (literal_now bank pcr value) key m.draws m
+
+-- `enroll` with a literal
+abbrev pub enroll_line : List ℕ → ℕ → Bank → Option (List ℕ) → Machine → Outcome
+enroll_line path pcr bank key m = with_value path pcr bank key (pcr_of m.state.banks m.state.pcrs bank pcr) m

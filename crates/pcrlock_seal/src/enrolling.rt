@@ -1,0 +1,285 @@
+//! `enroll`: a key is sealed to the present value of a PCR.
+ghost use Rattle.std.specs.Prelude.{◌≡◌, ◌≤◌, ◌∷◌, [], ℕ, List as Sequence, true, Some, length, IfOk, IfErr, IfSome};
+ghost use Rattle.hash_bank.specs.Hash.{size_in};
+ghost use Rattle.tpm_model.specs.declared.parts.Parts.{Parts};
+ghost use Rattle.tpm_model.specs.Rules.{HasRules};
+ghost use Rattle.tpm_model.specs.Binding.{literal_policy};
+ghost use Rattle.policy_digest.specs.Policies.{IsPolicyHash};
+ghost use Rattle.policy_file.specs.TokenText.{IsLiteral, IsObject};
+ghost use Rattle.tpm_device.specs.Stored.{Stored, Holds};
+ghost use Rattle.std.specs.Prelude.{Option, None, ◌^◌, ◌<◌};
+ghost use Rattle.std.specs.FinMap.{insert};
+ghost use Rattle.pl_base.specs.FileMap.{FileMap};
+ghost use Rattle.policy_file.specs.TokenText.{token_text};
+ghost use Rattle.policy_file.specs.declared.token.Token.TheVariants as token_value;
+ghost use Rattle.pcrlock_words.specs.Texts.{enrolled_text};
+ghost use Rattle.tpm_model.specs.World.{World};
+ghost use Rattle.tpm_model.specs.Tied.{Tied};
+ghost use Rattle.pcrlock_seal.specs.EnrollWorld.{enroll_world};
+ghost use Rattle.pcrlock_line.specs.Machine.{Machine, Tells};
+ghost use Rattle.pcrlock_line.specs.Outcome.{Gives, ending_of};
+ghost use Rattle.pcrlock_line.specs.Causes.{HasCauses};
+ghost use Rattle.pcrlock_seal.specs.Enroll.{literal_hash as hash_of_literal, sealed_handle as handle_in, seal_refusal as refusal_in, token_written, key_sealed, with_key, enroll_line};
+
+use crate::values::present_value;
+use hash_bank::{Bank, Digest};
+use pcrlock_line::{Reply, Stop, ask, draw, ready, replace_file};
+use pcrlock_words::{Answer, enrolled_line};
+use pl_base::{Entropy, Files, Memory, Name, Small};
+use policy_digest::{policy_pcr_in, values_digest_in};
+use policy_file::{Literal, Token, write_token};
+use std::alloc::Global;
+use tpm_device::Tpm;
+use tpm_model::{Command, Refusal, Response};
+
+/// The hash of a literal of the bank: SHA-384 for the two longest banks, else SHA-256.
+fn literal_hash(bank: Bank) -> Bank
+    ensures value { result ≡ hash_of_literal bank }
+    ensures policy { IsPolicyHash result }
+{
+    match bank {
+        Bank::Sha1 | Bank::Sha256 => Bank::Sha256,
+        Bank::Sha384 | Bank::Sha512 => Bank::Sha384,
+    }
+}
+
+/// The mask of one PCR.
+#[tactic(auto, using(std::proofs::lemmas::Nat::pow_below))]
+fn mask_of(pcr: u8) -> u32
+    requires { pcr ≤ 23 }
+    ensures value { result ≡ 2 ^ pcr }
+    ensures bound { result < 2 ^ 24 }
+{
+    1 << pcr
+}
+
+/// The policy of a literal.
+#[tactic(auto, using(policy_session::proofs::OnePcr::one_value))]
+fn policy_of_literal(literal: &Literal) -> Digest
+    requires { IsLiteral literal.now }
+    ensures { result ≡ literal_policy literal.now.hash literal.now.bank literal.now.pcr literal.now.value }
+{
+    let values = values_digest_in(literal.hash, &[literal.value]);
+    policy_pcr_in(
+        literal.hash,
+        &Digest::zeros(literal.hash),
+        literal.bank,
+        mask_of(literal.pcr),
+        &values,
+    )
+}
+
+/// The handle of a sealed object.
+fn sealed_handle(response: &Response) -> Option<u32>
+    ensures value { result ≡ handle_in response.now }
+    ensures range { IfSome result IsObject }
+{
+    match response {
+        Response::Object(handle) if *handle >= 0x8100_0000 && *handle <= 0x817F_FFFF => Some(
+            *handle,
+        ),
+        _ => None,
+    }
+}
+
+/// Why nothing was sealed.
+fn seal_refusal(alloc: Global, response: &Response) -> Result<Answer, Memory>
+    ensures { IfOk result (λ answer. answer ≡ refusal_in response.now) }
+{
+    match response {
+        Response::Refused(Refusal::HandlesEnd) => Ok(Answer::Limit {
+            kind: Name::from_text(alloc, "handles")?,
+            number: 0x0080_0000,
+        }),
+        _ => Ok(Answer::Limit {
+            kind: Name::from_text(alloc, "objects")?,
+            number: 65,
+        }),
+    }
+}
+
+/// Writes the token of an object, and gives the line that names its handle.
+fn write_literal<F: Files>(
+    alloc: Global,
+    files: &mut F,
+    path: &Name,
+    literal: &Literal,
+    object: u32,
+) -> Result<Vec<u8>, Stop>
+    requires literal { IsLiteral literal.now }
+    requires object { IsObject object }
+    ensures causes { HasCauses (F.faults files.old, 0, 0, 0) (F.faults files.new, 0, 0, 0) result }
+    ensures told { (held : FileMap) → F.held files.old ≡ Some held
+        → IfOk result (λ line. (line.items ≡ enrolled_text object) × (F.held files.new ≡ Some (insert held path.now (token_text (token_value.Literal object literal.now))))) }
+{
+    let token = Token::Literal {
+        object,
+        literal: *literal,
+    };
+    let bytes = write_token(alloc, &token)?;
+    let line = enrolled_line(alloc, object)?;
+    match replace_file(alloc, files, path.text(), bytes.as_slice()) {
+        Ok(()) => Ok(line),
+        Err(stop) => Err(stop),
+    }
+}
+
+/// Seals the key to the literal's policy and writes the token.
+fn seal_key<F: Files, T: Tpm>(
+    alloc: Global,
+    files: &mut F,
+    tpm: &mut T,
+    path: &Name,
+    literal: &Literal,
+    key: &Small,
+) -> Result<Reply, Stop>
+    requires readiness { T.ready tpm.old ≡ true }
+    requires literal { IsLiteral literal.now }
+    ensures causes { HasCauses (F.faults files.old, 0, T.faults tpm.old, 0) (F.faults files.new, 0, T.faults tpm.new, 0) result }
+    ensures told { (draws : Option (Sequence (Sequence ℕ))) (m : Machine) → Tells (F.held files.old) (T.stored tpm.old) draws m → T.live tpm.old ≡ Some m.state
+        → IfOk result (λ reply. Gives (F.held files.new) (T.stored tpm.new) draws reply (key_sealed path.now literal.now key.now m)) }
+{
+    let command = Command::Seal {
+        policy: policy_of_literal(literal),
+        secret: *key,
+    };
+    match ask(alloc, tpm, &command) {
+        Ok(response) => answered(alloc, files, path, literal, &response),
+        Err(stop) => Err(stop),
+    }
+}
+
+/// Writes the token where the key was sealed, and answers why not else.
+fn answered<F: Files>(
+    alloc: Global,
+    files: &mut F,
+    path: &Name,
+    literal: &Literal,
+    response: &Response,
+) -> Result<Reply, Stop>
+    requires { IsLiteral literal.now }
+    ensures causes { HasCauses (F.faults files.old, 0, 0, 0) (F.faults files.new, 0, 0, 0) result }
+    ensures told { (stored : Option Stored) (draws : Option (Sequence (Sequence ℕ))) (s : Parts) (m : Machine) → F.held files.old ≡ Some m.files → stored ≡ Some (Holds s) → draws ≡ Some m.draws → HasRules s
+        → IfOk result (λ reply. Gives (F.held files.new) stored draws reply (token_written path.now literal.now (handle_in response.now) response.now s m)) }
+{
+    match sealed_handle(response) {
+        Some(handle) => match write_literal(alloc, files, path, literal, handle) {
+            Ok(line) => Ok(Reply::Fine(line)),
+            Err(stop) => Err(stop),
+        },
+        None => match seal_refusal(alloc, response) {
+            Ok(answer) => Ok(Reply::Refused(answer)),
+            Err(_) => Err(Stop::Memory),
+        },
+    }
+}
+
+/// Enrolls the key, or a drawn one, under the present value of the PCR, and writes its token to the
+/// path.
+#[tactic(auto, using(crate::proofs::Enrolled::enroll_tied))]
+pub fn enroll<F: Files, T: Tpm, E: Entropy>(
+    alloc: Global,
+    files: &mut F,
+    tpm: &mut T,
+    entropy: &mut E,
+    path: &Name,
+    key: Option<Small>,
+    pcr: u8,
+    bank: Bank,
+) -> Result<Reply, Stop>
+    requires { pcr ≤ 23 }
+    ensures causes { HasCauses (F.faults files.old, E.faults entropy.old, T.faults tpm.old, 0) (F.faults files.new, E.faults entropy.new, T.faults tpm.new, 0) result }
+    ensures told { (m : Machine) → Tells (F.held files.old) (T.stored tpm.old) (E.words entropy.old) m
+        → IfOk result (λ reply. Gives (F.held files.new) (T.stored tpm.new) (E.words entropy.new) reply (enroll_line path.now pcr bank key m)) }
+    // A world that is tied to the state before is tied, with the object, to the state afterwards.
+    ensures tied { (m : Machine) (w : World) → Tells (F.held files.old) (T.stored tpm.old) (E.words entropy.old) m → Tied m.state w
+        → Tied (enroll_line path.now pcr bank key m).after.state (enroll_world pcr bank key m w) }
+{
+    match ready(alloc, tpm) {
+        Ok(Ok(())) => with_device(alloc, files, tpm, entropy, path, key, pcr, bank),
+        Ok(Err(_)) => Err(Stop::Memory),
+        Err(stop) => Err(stop),
+    }
+}
+
+/// Enrolls with a device that is ready.
+fn with_device<F: Files, T: Tpm, E: Entropy>(
+    alloc: Global,
+    files: &mut F,
+    tpm: &mut T,
+    entropy: &mut E,
+    path: &Name,
+    key: Option<Small>,
+    pcr: u8,
+    bank: Bank,
+) -> Result<Reply, Stop>
+    requires readiness { T.ready tpm.old ≡ true }
+    requires number { pcr ≤ 23 }
+    ensures causes { HasCauses (F.faults files.old, E.faults entropy.old, T.faults tpm.old, 0) (F.faults files.new, E.faults entropy.new, T.faults tpm.new, 0) result }
+    ensures told { (m : Machine) → Tells (F.held files.old) (T.stored tpm.old) (E.words entropy.old) m → T.live tpm.old ≡ Some m.state
+        → IfOk result (λ reply. Gives (F.held files.new) (T.stored tpm.new) (E.words entropy.new) reply (enroll_line path.now pcr bank key m)) }
+{
+    match present_value(alloc, tpm, bank, pcr) {
+        Ok(Some(value)) => {
+            // A device that tells its state is ready still.
+            if !tpm.is_ready() {
+                return Err(Stop::Memory);
+            }
+            let literal = Literal {
+                hash: literal_hash(bank),
+                bank,
+                pcr,
+                value,
+            };
+            seal_under(alloc, files, tpm, entropy, path, key, &literal)
+        }
+        Ok(None) => Ok(Reply::Refused(Answer::BankAbsent(bank))),
+        Err(stop) => Err(stop),
+    }
+}
+
+/// Seals the key, or a drawn one, under the literal.
+fn seal_under<F: Files, T: Tpm, E: Entropy>(
+    alloc: Global,
+    files: &mut F,
+    tpm: &mut T,
+    entropy: &mut E,
+    path: &Name,
+    key: Option<Small>,
+    literal: &Literal,
+) -> Result<Reply, Stop>
+    requires readiness { T.ready tpm.old ≡ true }
+    requires literal { IsLiteral literal.now }
+    ensures causes { HasCauses (F.faults files.old, E.faults entropy.old, T.faults tpm.old, 0) (F.faults files.new, E.faults entropy.new, T.faults tpm.new, 0) result }
+    ensures told { (m : Machine) → Tells (F.held files.old) (T.stored tpm.old) (E.words entropy.old) m → T.live tpm.old ≡ Some m.state
+        → IfOk result (λ reply. Gives (F.held files.new) (T.stored tpm.new) (E.words entropy.new) reply (with_key path.now literal.now key m.draws m)) }
+{
+    match key {
+        Some(key) => seal_key(alloc, files, tpm, path, literal, &key),
+        None => seal_drawn(alloc, files, tpm, entropy, path, literal),
+    }
+}
+
+/// Seals a drawn key.
+fn seal_drawn<F: Files, T: Tpm, E: Entropy>(
+    alloc: Global,
+    files: &mut F,
+    tpm: &mut T,
+    entropy: &mut E,
+    path: &Name,
+    literal: &Literal,
+) -> Result<Reply, Stop>
+    requires readiness { T.ready tpm.old ≡ true }
+    requires literal { IsLiteral literal.now }
+    ensures causes { HasCauses (F.faults files.old, E.faults entropy.old, T.faults tpm.old, 0) (F.faults files.new, E.faults entropy.new, T.faults tpm.new, 0) result }
+    ensures told { (m : Machine) → Tells (F.held files.old) (T.stored tpm.old) (E.words entropy.old) m → T.live tpm.old ≡ Some m.state
+        → IfOk result (λ reply. Gives (F.held files.new) (T.stored tpm.new) (E.words entropy.new) reply (with_key path.now literal.now None m.draws m)) }
+{
+    match draw(entropy) {
+        Ok(word) => match Small::from_slice(&word) {
+            Some(key) => seal_key(alloc, files, tpm, path, literal, &key),
+            None => Err(Stop::Memory),
+        },
+        Err(stop) => Err(stop),
+    }
+}

@@ -1,0 +1,5 @@
+pub mod Answers
+pub mod Responses
+pub mod Kept
+pub mod OpenSession
+pub mod LiteralUnseal
