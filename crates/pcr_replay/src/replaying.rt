@@ -27,18 +27,30 @@ pub fn replay(list: &[LogRecord], pcr: u8, bank: Bank, locality: u8) -> Option<D
     Some(value)
 }
 
-/// The value after an extend by the bank's digest, where both are there.
-fn extended_value(bank: Bank, value: &Option<Digest>, digests: &Digests) -> Option<Digest>
-    requires { IfSome value.now (λ v. length v ≡ size_in bank) }
-    ensures value { result ≡ value_after bank value.now (digest_at digests.now bank) }
-    ensures size { IfSome result (λ v. length v ≡ size_in bank) }
+/// The bank's digest, if it is there, where it lies.
+fn digest_of(digests: &Digests, bank: Bank) -> &Option<Digest>
+    ensures value { result.now ≡ digest_at digests.now bank }
+    ensures size { IfSome result.now (λ d. length d ≡ size_in bank) }
 {
-    match value {
-        Some(value) => match digests.get(bank) {
-            Some(digest) => Some(extend(bank, value, &digest)),
-            None => None,
-        },
-        None => None,
+    match bank {
+        Bank::Sha1 => &digests.sha1,
+        Bank::Sha256 => &digests.sha256,
+        Bank::Sha384 => &digests.sha384,
+        Bank::Sha512 => &digests.sha512,
+    }
+}
+
+/// Extends a value by the bank's digest, where both are there; else there is no value.
+fn extend_value(bank: Bank, value: &mut Option<Digest>, digests: &Digests)
+    requires { IfSome value.old (λ v. length v ≡ size_in bank) }
+    ensures value { value.new ≡ value_after bank value.old (digest_at digests.now bank) }
+    ensures size { IfSome value.new (λ v. length v ≡ size_in bank) }
+{
+    if let Some(held) = value {
+        match digest_of(digests, bank) {
+            Some(digest) => *held = extend(bank, held, digest),
+            None => *value = None,
+        }
     }
 }
 
@@ -60,7 +72,7 @@ fn extend_all(values: &mut [Option<Digest>], bank: Bank, list: &[LogRecord])
 {
     for record in list {
         let pcr = record.pcr as usize;
-        values[pcr] = extended_value(bank, &values[pcr], &record.digests);
+        extend_value(bank, &mut values[pcr], &record.digests);
     }
 }
 

@@ -3,6 +3,7 @@
 //! cost of a run is the difference between two numbers (docs/PERFORMANCE.md).
 #![tactic(auto)]
 
+mod firmware;
 mod records;
 
 use std::env;
@@ -16,10 +17,19 @@ fn main(rt: HostRuntime) -> anyhow::Result<()> {
             let count = records::run(alloc, name, records::SMALL, 1)?;
             println!(rt; "{name} {count}")?;
         }
+        for name in firmware::NAMES {
+            let count = firmware::run(alloc, name, firmware::SMALL, 1)?;
+            println!(rt; "{name} {count}")?;
+        }
         return Ok(());
     };
     let rounds = words.next().and_then(|word| word.parse::<u32>().ok());
-    let count = records::run(alloc, name.as_str(), records::LARGE, rounds.unwrap_or(1))?;
+    let rounds = rounds.unwrap_or(1);
+    let count = if name.as_str().starts_with("firmware") {
+        firmware::run(alloc, name.as_str(), firmware::LARGE, rounds)?
+    } else {
+        records::run(alloc, name.as_str(), records::LARGE, rounds)?
+    };
     println!(rt; "{name} {count}")?;
     Ok(())
 }

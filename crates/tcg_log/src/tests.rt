@@ -21,6 +21,314 @@ const FIELDS: [u32; 21] = [
     0, 4, 8, 28, 32, 48, 52, 53, 54, 55, 56, 60, 62, 64, 65, 69, 73, 77, 79, 111, 115,
 ];
 
+const SIXTEEN: [(u8, u8); 16] = [
+    (0x20, 1),
+    (0x21, 1),
+    (0x22, 1),
+    (0x23, 1),
+    (0x24, 1),
+    (0x25, 1),
+    (0x26, 1),
+    (0x27, 1),
+    (0x28, 1),
+    (0x29, 1),
+    (0x2A, 1),
+    (0x2B, 1),
+    (0x2C, 1),
+    (0x2D, 1),
+    (0x2E, 1),
+    (0x2F, 64),
+];
+
+const SEVENTEEN: [(u8, u8); 17] = [
+    (0x20, 1),
+    (0x21, 1),
+    (0x22, 1),
+    (0x23, 1),
+    (0x24, 1),
+    (0x25, 1),
+    (0x26, 1),
+    (0x27, 1),
+    (0x28, 1),
+    (0x29, 1),
+    (0x2A, 1),
+    (0x2B, 1),
+    (0x2C, 1),
+    (0x2D, 1),
+    (0x2E, 1),
+    (0x2F, 1),
+    (0x30, 1),
+];
+
+const BANKS: [(u8, u8); 4] = [(0x04, 20), (0x0B, 32), (0x0C, 48), (0x0D, 64)];
+
+const THREE: &[u8] = b"StartupLocality\0\x03";
+
+const FOUR: &[u8] = b"StartupLocality\0\x04";
+
+const ONE: &[u8] = b"StartupLocality\0\x01";
+
+const LONG: &[u8] = b"StartupLocality\0\x03\x03";
+
+const OTHER: &[u8] = b"StartupLocalitx\0\x03";
+
+const CHANGES: [(&[(usize, u8)], Option<LogError>); 27] = [
+    (&[], None),
+    (
+        &[(0, 1)],
+        Some(LogError::Malformed {
+            place: 0,
+            kind: LogKind::NoSpecId,
+        }),
+    ),
+    (
+        &[(4, 4)],
+        Some(LogError::Malformed {
+            place: 4,
+            kind: LogKind::NoSpecId,
+        }),
+    ),
+    (
+        &[(27, 1)],
+        Some(LogError::Malformed {
+            place: 8,
+            kind: LogKind::NoSpecId,
+        }),
+    ),
+    (
+        &[(28, 0x20)],
+        Some(LogError::Malformed {
+            place: 28,
+            kind: LogKind::SpecSize,
+        }),
+    ),
+    (
+        &[(28, 0x22)],
+        Some(LogError::Malformed {
+            place: 28,
+            kind: LogKind::SpecSize,
+        }),
+    ),
+    (
+        &[(31, 1)],
+        Some(LogError::Malformed {
+            place: 28,
+            kind: LogKind::SpecSize,
+        }),
+    ),
+    // With a byte of the vendor's the record begins a byte later.
+    (
+        &[(28, 0x22), (64, 1)],
+        Some(LogError::Malformed {
+            place: 66,
+            kind: LogKind::PcrNumber,
+        }),
+    ),
+    (
+        &[(28, 0x22), (60, 4)],
+        Some(LogError::Malformed {
+            place: 62,
+            kind: LogKind::Algorithms,
+        }),
+    ),
+    (
+        &[(46, 0x34)],
+        Some(LogError::Malformed {
+            place: 32,
+            kind: LogKind::NoSpecId,
+        }),
+    ),
+    (
+        &[(47, 1)],
+        Some(LogError::Malformed {
+            place: 32,
+            kind: LogKind::NoSpecId,
+        }),
+    ),
+    (&[(48, 1), (52, 9), (53, 9), (54, 9), (55, 9)], None),
+    (
+        &[(56, 0)],
+        Some(LogError::Malformed {
+            place: 56,
+            kind: LogKind::Algorithms,
+        }),
+    ),
+    (
+        &[(56, 17)],
+        Some(LogError::Malformed {
+            place: 56,
+            kind: LogKind::Algorithms,
+        }),
+    ),
+    (&[(60, 0x12), (77, 0x12)], None),
+    (
+        &[(60, 0x12)],
+        Some(LogError::Malformed {
+            place: 77,
+            kind: LogKind::DigestAlgorithm,
+        }),
+    ),
+    (
+        &[(62, 0x14)],
+        Some(LogError::Malformed {
+            place: 62,
+            kind: LogKind::Algorithms,
+        }),
+    ),
+    (
+        &[(60, 0x12), (62, 0)],
+        Some(LogError::Malformed {
+            place: 62,
+            kind: LogKind::Algorithms,
+        }),
+    ),
+    (
+        &[(60, 0x12), (62, 65)],
+        Some(LogError::Malformed {
+            place: 62,
+            kind: LogKind::Algorithms,
+        }),
+    ),
+    (&[(65, 23)], None),
+    (
+        &[(65, 24)],
+        Some(LogError::Malformed {
+            place: 65,
+            kind: LogKind::PcrNumber,
+        }),
+    ),
+    (&[(65, 24), (69, 3)], None),
+    (
+        &[(65, 24), (72, 0x80)],
+        Some(LogError::Malformed {
+            place: 65,
+            kind: LogKind::PcrNumber,
+        }),
+    ),
+    (
+        &[(73, 0)],
+        Some(LogError::Malformed {
+            place: 73,
+            kind: LogKind::Count,
+        }),
+    ),
+    (
+        &[(73, 2)],
+        Some(LogError::Malformed {
+            place: 73,
+            kind: LogKind::Count,
+        }),
+    ),
+    (
+        &[(111, 5)],
+        Some(LogError::Malformed {
+            place: 115,
+            kind: LogKind::Cut,
+        }),
+    ),
+    (
+        &[(114, 0xFF)],
+        Some(LogError::Malformed {
+            place: 115,
+            kind: LogKind::Cut,
+        }),
+    ),
+];
+
+const HEADS: [(&[(u8, u8)], &[u8], Option<LogError>); 11] = [
+    (&[(0x04, 20)], &[], None),
+    (&[(0x0B, 32), (0x04, 20)], &[], None),
+    (&[(0x04, 20), (0x0B, 32), (0x0C, 48)], &[1, 2, 3], None),
+    (&[(0x04, 20), (0x0B, 32), (0x0C, 48), (0x0D, 64)], &[], None),
+    (&[(0x12, 1)], &[], None),
+    (&[(0x12, 64), (0x0B, 32)], &[0], None),
+    (&SIXTEEN, &[9], None),
+    (
+        &SEVENTEEN,
+        &[],
+        Some(LogError::Malformed {
+            place: 56,
+            kind: LogKind::Algorithms,
+        }),
+    ),
+    (
+        &[(0x0B, 32), (0x0B, 32)],
+        &[],
+        Some(LogError::Malformed {
+            place: 64,
+            kind: LogKind::Algorithms,
+        }),
+    ),
+    (
+        &[(0x0B, 32), (0x04, 32)],
+        &[],
+        Some(LogError::Malformed {
+            place: 66,
+            kind: LogKind::Algorithms,
+        }),
+    ),
+    (
+        &[(0x0B, 32), (0x0D, 63)],
+        &[],
+        Some(LogError::Malformed {
+            place: 66,
+            kind: LogKind::Algorithms,
+        }),
+    ),
+];
+
+const RECORD_DIGESTS: [(&[(u8, u8)], Option<LogError>); 8] = [
+    (&BANKS, None),
+    (&[(0x0B, 32)], None),
+    (&[(0x0D, 64), (0x04, 20), (0x0B, 32)], None),
+    (
+        &[],
+        Some(LogError::Malformed {
+            place: 85,
+            kind: LogKind::Count,
+        }),
+    ),
+    (
+        &[(0x04, 1), (0x0B, 32), (0x0C, 48), (0x0D, 64), (0x12, 1)],
+        Some(LogError::Malformed {
+            place: 85,
+            kind: LogKind::Count,
+        }),
+    ),
+    (
+        &[(0x12, 32)],
+        Some(LogError::Malformed {
+            place: 89,
+            kind: LogKind::DigestAlgorithm,
+        }),
+    ),
+    (
+        &[(0x0B, 32), (0x0B, 32)],
+        Some(LogError::Malformed {
+            place: 123,
+            kind: LogKind::DigestAlgorithm,
+        }),
+    ),
+    (
+        &[(0x0B, 32), (0x0C, 47)],
+        Some(LogError::Malformed {
+            place: 173,
+            kind: LogKind::Cut,
+        }),
+    ),
+];
+
+const ANNOUNCEMENTS: [(u8, u8, &[u8], u8); 8] = [
+    (0, 3, THREE, 3),
+    (0, 3, FOUR, 4),
+    (0, 3, ONE, 0),
+    (0, 3, LONG, 0),
+    (0, 3, OTHER, 0),
+    (0, 3, b"", 0),
+    (1, 3, THREE, 0),
+    (0, 4, THREE, 0),
+];
+
 // Why bytes are no log, or none where they are one.
 fn refusal(alloc: Global, bytes: &[u8]) -> Option<LogError> {
     if bytes.len() > LIMIT {
@@ -118,37 +426,7 @@ fn cuts_of_the_example(rt: HostRuntime) {
 
 #[test]
 fn changes_of_the_example(rt: HostRuntime) -> Result<(), Fail> {
-    let table: [(&[(usize, u8)], Option<LogError>); 27] = [
-        (&[], None),
-        (&[(0, 1)], malformed(0, LogKind::NoSpecId)),
-        (&[(4, 4)], malformed(4, LogKind::NoSpecId)),
-        (&[(27, 1)], malformed(8, LogKind::NoSpecId)),
-        (&[(28, 0x20)], malformed(28, LogKind::SpecSize)),
-        (&[(28, 0x22)], malformed(28, LogKind::SpecSize)),
-        (&[(31, 1)], malformed(28, LogKind::SpecSize)),
-        // With a byte of the vendor's the record begins a byte later.
-        (&[(28, 0x22), (64, 1)], malformed(66, LogKind::PcrNumber)),
-        (&[(28, 0x22), (60, 4)], malformed(62, LogKind::Algorithms)),
-        (&[(46, 0x34)], malformed(32, LogKind::NoSpecId)),
-        (&[(47, 1)], malformed(32, LogKind::NoSpecId)),
-        (&[(48, 1), (52, 9), (53, 9), (54, 9), (55, 9)], None),
-        (&[(56, 0)], malformed(56, LogKind::Algorithms)),
-        (&[(56, 17)], malformed(56, LogKind::Algorithms)),
-        (&[(60, 0x12), (77, 0x12)], None),
-        (&[(60, 0x12)], malformed(77, LogKind::DigestAlgorithm)),
-        (&[(62, 0x14)], malformed(62, LogKind::Algorithms)),
-        (&[(60, 0x12), (62, 0)], malformed(62, LogKind::Algorithms)),
-        (&[(60, 0x12), (62, 65)], malformed(62, LogKind::Algorithms)),
-        (&[(65, 23)], None),
-        (&[(65, 24)], malformed(65, LogKind::PcrNumber)),
-        (&[(65, 24), (69, 3)], None),
-        (&[(65, 24), (72, 0x80)], malformed(65, LogKind::PcrNumber)),
-        (&[(73, 0)], malformed(73, LogKind::Count)),
-        (&[(73, 2)], malformed(73, LogKind::Count)),
-        (&[(111, 5)], malformed(115, LogKind::Cut)),
-        (&[(114, 0xFF)], malformed(115, LogKind::Cut)),
-    ];
-    for (edits, expected) in &table {
+    for (edits, expected) in &CHANGES {
         let bytes = changed(rt.alloc(), edits)?;
         assert_eq!(rt; refusal(rt.alloc(), &bytes), *expected);
     }
@@ -166,69 +444,7 @@ fn rewritten(alloc: Global, bytes: &[u8]) -> Result<Vec<u8>, Fail> {
 
 #[test]
 fn heads(rt: HostRuntime) -> Result<(), Fail> {
-    let sixteen = [
-        (0x20, 1),
-        (0x21, 1),
-        (0x22, 1),
-        (0x23, 1),
-        (0x24, 1),
-        (0x25, 1),
-        (0x26, 1),
-        (0x27, 1),
-        (0x28, 1),
-        (0x29, 1),
-        (0x2A, 1),
-        (0x2B, 1),
-        (0x2C, 1),
-        (0x2D, 1),
-        (0x2E, 1),
-        (0x2F, 64),
-    ];
-    let seventeen = [
-        (0x20, 1),
-        (0x21, 1),
-        (0x22, 1),
-        (0x23, 1),
-        (0x24, 1),
-        (0x25, 1),
-        (0x26, 1),
-        (0x27, 1),
-        (0x28, 1),
-        (0x29, 1),
-        (0x2A, 1),
-        (0x2B, 1),
-        (0x2C, 1),
-        (0x2D, 1),
-        (0x2E, 1),
-        (0x2F, 1),
-        (0x30, 1),
-    ];
-    let table: [(&[(u8, u8)], &[u8], Option<LogError>); 11] = [
-        (&[(0x04, 20)], &[], None),
-        (&[(0x0B, 32), (0x04, 20)], &[], None),
-        (&[(0x04, 20), (0x0B, 32), (0x0C, 48)], &[1, 2, 3], None),
-        (&[(0x04, 20), (0x0B, 32), (0x0C, 48), (0x0D, 64)], &[], None),
-        (&[(0x12, 1)], &[], None),
-        (&[(0x12, 64), (0x0B, 32)], &[0], None),
-        (&sixteen, &[9], None),
-        (&seventeen, &[], malformed(56, LogKind::Algorithms)),
-        (
-            &[(0x0B, 32), (0x0B, 32)],
-            &[],
-            malformed(64, LogKind::Algorithms),
-        ),
-        (
-            &[(0x0B, 32), (0x04, 32)],
-            &[],
-            malformed(66, LogKind::Algorithms),
-        ),
-        (
-            &[(0x0B, 32), (0x0D, 63)],
-            &[],
-            malformed(66, LogKind::Algorithms),
-        ),
-    ];
-    for (algorithms, vendor, expected) in &table {
+    for (algorithms, vendor, expected) in &HEADS {
         let bytes = spec_bytes(rt.alloc(), algorithms, vendor)?;
         assert_eq!(rt; refusal(rt.alloc(), &bytes), *expected);
         if expected.is_none() {
@@ -241,29 +457,12 @@ fn heads(rt: HostRuntime) -> Result<(), Fail> {
 
 #[test]
 fn records(rt: HostRuntime) -> Result<(), Fail> {
-    let banks = [(0x04, 20), (0x0B, 32), (0x0C, 48), (0x0D, 64)];
-    let table: [(&[(u8, u8)], Option<LogError>); 8] = [
-        (&banks, None),
-        (&[(0x0B, 32)], None),
-        (&[(0x0D, 64), (0x04, 20), (0x0B, 32)], None),
-        (&[], malformed(85, LogKind::Count)),
-        (
-            &[(0x04, 1), (0x0B, 32), (0x0C, 48), (0x0D, 64), (0x12, 1)],
-            malformed(85, LogKind::Count),
-        ),
-        (&[(0x12, 32)], malformed(89, LogKind::DigestAlgorithm)),
-        (
-            &[(0x0B, 32), (0x0B, 32)],
-            malformed(123, LogKind::DigestAlgorithm),
-        ),
-        (&[(0x0B, 32), (0x0C, 47)], malformed(123 + 50, LogKind::Cut)),
-    ];
-    for (digests, expected) in &table {
-        let mut bytes = spec_bytes(rt.alloc(), &banks, &[])?;
+    for (digests, expected) in &RECORD_DIGESTS {
+        let mut bytes = spec_bytes(rt.alloc(), &BANKS, &[])?;
         put_record(&mut bytes, 7, 4, digests, &[])?;
         assert_eq!(rt; refusal(rt.alloc(), &bytes), *expected);
         if expected.is_none() {
-            put_record(&mut bytes, 200, 3, &banks, b"an event")?;
+            put_record(&mut bytes, 200, 3, &BANKS, b"an event")?;
             let again = rewritten(rt.alloc(), &bytes)?;
             assert_eq!(rt; again.as_slice(), bytes.as_slice());
         }
@@ -273,22 +472,7 @@ fn records(rt: HostRuntime) -> Result<(), Fail> {
 
 #[test]
 fn localities(rt: HostRuntime) -> Result<(), Fail> {
-    let three = b"StartupLocality\0\x03";
-    let four = b"StartupLocality\0\x04";
-    let one = b"StartupLocality\0\x01";
-    let long = b"StartupLocality\0\x03\x03";
-    let other = b"StartupLocalitx\0\x03";
-    let table: [(u8, u8, &[u8], u8); 8] = [
-        (0, 3, three, 3),
-        (0, 3, four, 4),
-        (0, 3, one, 0),
-        (0, 3, long, 0),
-        (0, 3, other, 0),
-        (0, 3, b"", 0),
-        (1, 3, three, 0),
-        (0, 4, three, 0),
-    ];
-    for (pcr, kind, event, expected) in &table {
+    for (pcr, kind, event, expected) in &ANNOUNCEMENTS {
         let mut bytes = spec_bytes(rt.alloc(), &[(0x04, 20)], &[])?;
         put_record(&mut bytes, *pcr, *kind, &[(0x04, 20)], event)?;
         if bytes.len() <= LIMIT {
@@ -296,8 +480,8 @@ fn localities(rt: HostRuntime) -> Result<(), Fail> {
             assert_eq!(rt; locality(&log), *expected);
         }
         // What has no effect doesn't hide a later one, and the first that has one counts.
-        put_record(&mut bytes, 0, 3, &[(0x04, 20)], four)?;
-        put_record(&mut bytes, 0, 3, &[(0x04, 20)], three)?;
+        put_record(&mut bytes, 0, 3, &[(0x04, 20)], FOUR)?;
+        put_record(&mut bytes, 0, 3, &[(0x04, 20)], THREE)?;
         if bytes.len() <= LIMIT {
             let log = read_log(rt.alloc(), &bytes)?;
             assert_eq!(rt; locality(&log), if *expected == 0 { 4 } else { *expected });

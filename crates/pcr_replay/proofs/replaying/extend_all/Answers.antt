@@ -12,8 +12,8 @@ loop-record-preserved c =
     let r = c.record-item.result in
     let within : r.pcr < length c.loop-record.values = omega (arith, r.in_range, c.requires.count, c.loop-record.auto.values) in
     let here : get_or c.loop-record.values r.pcr c.index-values-pcr.result ≡ get_or c.loop-record.values r.pcr None = get_or_default c.loop-record.values r.pcr c.index-values-pcr.result None within in
-    let made : c.extended_value.result ≡ value_after c.args.bank (get_or c.loop-record.values r.pcr None) (digest_at r.digests c.args.bank) = c.extended_value.ensures.value ∙ ap (λ o. value_after c.args.bank o (digest_at r.digests c.args.bank)) here in
+    let made : c.extend_value.new.value ≡ value_after c.args.bank (get_or c.loop-record.values r.pcr None) (digest_at r.digests c.args.bank) = c.extend_value.ensures.value ∙ ap (λ o. value_after c.args.bank o (digest_at r.digests c.args.bank)) here in
     record {
       value = rw made (all_next c.args.bank c.args.list.now c.loop-record.record-index r c.loop-record.values (λ k. replay_on c.args.bank k (get_or c.args.values.now k None) (rows c.args.list.now)) c.loop-record-test.true c.record-item.is within c.loop-record.invariant.value);
-      sizes = facts_next (λ v. length v ≡ size_in c.args.bank) c.loop-record.values r.pcr c.extended_value.result within c.extended_value.ensures.size c.loop-record.invariant.sizes;
+      sizes = facts_next (λ v. length v ≡ size_in c.args.bank) c.loop-record.values r.pcr c.extend_value.new.value within c.extend_value.ensures.size c.loop-record.invariant.sizes;
     }
