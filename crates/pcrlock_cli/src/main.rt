@@ -12,6 +12,14 @@ use std::{env, io};
 use tpm_device::SoftTpm;
 use tpm_model::State;
 
+/// The banks of the TPM.
+const ALL_BANKS: Banks = Banks {
+    sha1: true,
+    sha256: true,
+    sha384: true,
+    sha512: true,
+};
+
 /// Why the words of the process can't be run.
 #[derive(Drop)]
 enum Refusal {
@@ -74,7 +82,7 @@ fn run_process<O: Sink, R: Sink>(
 ) -> Result<u8, Refusal> {
     let alloc = rt.alloc();
     let words = words(rt)?;
-    let mut tpm = SoftTpm::new(State::fresh(alloc, Banks::all())?, List::new(alloc));
+    let mut tpm = SoftTpm::new(State::fresh(alloc, ALL_BANKS)?, List::new(alloc));
     let mut files = RealFiles::new(rt);
     let mut entropy = RealEntropy::new(rt);
     Ok(run(
