@@ -6,6 +6,14 @@ use std::test::Fail;
 use tpm_device::SoftTpm;
 use tpm_model::State;
 
+/// The banks of the TPM.
+const ALL_BANKS: Banks = Banks {
+    sha1: true,
+    sha256: true,
+    sha384: true,
+    sha512: true,
+};
+
 /// The text of a script, and the outputs and the status of the run.
 struct Case {
     script: &'static str,
@@ -64,7 +72,7 @@ fn runs_scripts(rt: HostRuntime) -> Result<(), Fail> {
     for case in &CASES {
         let mut files = MemFiles::new(alloc, List::new(alloc));
         files.put("s", case.script.as_bytes())?;
-        let mut tpm = SoftTpm::new(State::fresh(alloc, Banks::all())?, List::new(alloc));
+        let mut tpm = SoftTpm::new(State::fresh(alloc, ALL_BANKS)?, List::new(alloc));
         let mut entropy = ListEntropy::new(List::new(alloc), List::new(alloc));
         let mut out = MemSink::new(alloc, List::new(alloc));
         let mut err = MemSink::new(alloc, List::new(alloc));
