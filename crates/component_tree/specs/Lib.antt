@@ -1,0 +1,9 @@
+pub mod Names
+pub mod Places
+pub mod Limits
+pub mod Ascending
+pub mod Step
+pub mod Listing
+pub mod Taken
+pub mod PlainTree
+pub mod Reading
