@@ -1,4 +1,4 @@
-ghost use Rattle.std.specs.Prelude.{◌≡◌, ◌↔◌, length, IfOk, IsTrue, string_bytes};
+ghost use Rattle.std.specs.Prelude.{◌≡◌, ◌↔◌, length, IfOk, IsTrue};
 
 use crate::Memory;
 use std::alloc::Global;
@@ -28,13 +28,6 @@ impl Name {
         Ok(Name {
             text: String::from_str(alloc, text)?,
         })
-    }
-
-    /// The name whose text this is, without a copy.
-    pub fn from_string(text: String) -> Name
-        ensures { result ≡ string_bytes text }
-    {
-        Name { text }
     }
 
     /// The text itself, without a copy.
