@@ -2,3 +2,5 @@ pub mod Endings
 pub mod Parts
 pub mod Listings
 pub mod Records
+pub mod LastComponent
+pub mod Keeping

@@ -7,3 +7,4 @@ pub mod Listing
 pub mod Taken
 pub mod PlainTree
 pub mod Reading
+pub mod Growth

@@ -5,6 +5,8 @@
 #![tactic(auto)]
 
 mod error;
+mod growing;
+mod loading;
 mod name;
 mod place;
 mod reading;
@@ -13,4 +15,5 @@ mod tree;
 mod walk;
 
 pub use error::{TreeError, TreeLimit};
+pub use loading::load_tree;
 pub use tree::{Component, Tree, Variant};

@@ -24,7 +24,7 @@ pub(crate) fn path_below(alloc: Global, folder: &str, name: &str) -> Result<Name
     path.push_str(folder)?;
     path.push('/')?;
     path.push_str(name)?;
-    Ok(Name::from_string(path))
+    Name::from_text(alloc, path.as_str())
 }
 
 /// Notes a file with a path, unless an earlier folder has one in its place.
