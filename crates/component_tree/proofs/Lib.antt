@@ -4,3 +4,4 @@ pub mod Listings
 pub mod Records
 pub mod LastComponent
 pub mod Keeping
+pub mod Trees
