@@ -155,7 +155,7 @@ one_more cs id v is up room few (Some c) at =
     let room_at : variant_passes (Some c) cs id ≡ None = sym (ap (λ o. variant_passes o cs id) at) ∙ room in
     let up_at : is_gt (text_cmp c.id id) ≡ false = subst (λ o. MatchOption o (Unit {0}) (λ d. is_gt (text_cmp d.id id) ≡ false)) at up in
     elim (bytes_eq c.id id) as (λ t. bytes_eq c.id id ≡ t → cond t (cond (eqb (length c.variants) 64) (Some Variants) None) (component_passes cs) ≡ None
-        → Keeps cs (cond t (grown cs c v) (cs ++ record { id = id; variants = v ∷ [] } ∷ [])) id (length v.records)) [
+    → Keeps cs (cond t (grown cs c v) (cs ++ record { id = id; variants = v ∷ [] } ∷ [])) id (length v.records)) [
       | true ↦ λ same _.
           let same_id : c.id ≡ id = (bytes_eq-Decides c.id id).0 same in
           let within_front : IsWithin (ends.front ++ c ∷ []) = subst IsWithin ends.is is in
@@ -167,7 +167,7 @@ one_more cs id v is up room few (Some c) at =
       | false ↦ λ other free.
           let named : ids cs ≡ ids ends.front ++ c.id ∷ [] = ap ids ends.is ∙ map_push id_of ends.front c in
           let order : ascend (ids cs ++ id ∷ []) ≡ true = ap (λ (xs : List (List ℕ)). ascend (xs ++ id ∷ [])) named
-              ∙ ascend_push (ids ends.front) c.id id (sym (ap ascend named) ∙ is.ascending) (below_other c.id id up_at other) in
+          ∙ ascend_push (ids ends.front) c.id id (sym (ap ascend named) ∙ is.ascending) (below_other c.id id up_at other) in
           new_one cs id v is order free few
     ] refl room_at
 

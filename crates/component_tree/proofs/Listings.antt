@@ -109,7 +109,7 @@ same_names names given sorted same =
     let held : entries of_names ≡ marked names = entries-from_sorted text_cmp (marked names) (subst T (sym (marked_sorted names sorted)) tt) in
     let named : keys of_names ≡ names = ap (λ (es : List (List ℕ × Unit {0})). map (λ e. e.0) es) held ∙ marked_names names in
     let alike_at : (q : List ℕ) → get set q ≡ get of_names q = λ q. alike (get set q) (get of_names q)
-        (contains_key-keys set q ∙ sym (by_bytes q (keys set)) ∙ sym (same q) ∙ by_bytes q names ∙ ap (list_any (eq_by_cmp text_cmp q)) (sym named) ∙ sym (contains_key-keys of_names q)) in
+    (contains_key-keys set q ∙ sym (by_bytes q (keys set)) ∙ sym (same q) ∙ by_bytes q names ∙ ap (list_any (eq_by_cmp text_cmp q)) (sym named) ∙ sym (contains_key-keys of_names q)) in
     ap keys (same_map nat_list_cmp_total (slice_cmp-IsAntisymmetric nat_cmp-IsAntisymmetric) set of_names alike_at) ∙ named
 
 -- ---- a listing is that of the map

@@ -82,7 +82,7 @@ pub tree_total : (cs : List Component) → IsWithin (plain cs) → sum_by (λ c.
 tree_total cs is =
     let in_variant : (v : Variant) → length (plain_variant v).records ≡ length v.records = λ v. length-map v.records spelled in
     let in_component : (c : Component) → sum_by (λ v. length v.records) (plain_component c).variants ≡ sum_by (λ (v : Variant). length v.records) c.variants =
-        λ c. sum_by_view (λ v. length v.records) (λ (v : Variant). length v.records) plain_variant in_variant c.variants in
+    λ c. sum_by_view (λ v. length v.records) (λ (v : Variant). length v.records) plain_variant in_variant c.variants in
     let whole : records_in_all (plain cs) ≡ sum_by (λ (c : Component). sum_by (λ (v : Variant). length v.records) c.variants) cs =
-        sum_by_view (λ c. sum_by (λ v. length v.records) c.variants) (λ (c : Component). sum_by (λ (v : Variant). length v.records) c.variants) plain_component in_component cs in
+    sum_by_view (λ c. sum_by (λ v. length v.records) c.variants) (λ (c : Component). sum_by (λ (v : Variant). length v.records) c.variants) plain_component in_component cs in
     rw (← whole) is.total

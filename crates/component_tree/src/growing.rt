@@ -17,7 +17,9 @@ use pl_base::{List, Memory, Name};
 use std::alloc::Global;
 
 const VARIANT_LIMIT: usize = 64;
+
 const COMPONENT_LIMIT: usize = 256;
+
 const TOTAL_LIMIT: usize = 65_536;
 
 /// `-` for a component's own file, else the file's name without its ending.
@@ -162,6 +164,11 @@ pub(crate) fn add_records(
         return Err(TreeError::TooMany(limit));
     }
     let name = variant_name(alloc, &place.file)?;
-    add_variant(alloc, components, place.id.text(), Variant { name, records })?;
+    add_variant(
+        alloc,
+        components,
+        place.id.text(),
+        Variant { name, records },
+    )?;
     Ok(total + count)
 }

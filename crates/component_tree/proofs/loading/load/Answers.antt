@@ -15,7 +15,7 @@ use Rattle.component_tree.proofs.loading.load.Goals as goal
 pub loop-place-preserved : goal.loop-place-preserved
 loop-place-preserved g c =
     let left : c.loop-place.place-iterator ≡ (c.in-Some.place.now, c.in-Some.path.now) ∷ c.next.new.self =
-        rest_more deref_pair c.loop-place.place-iterator c.next.new.self c.next.result (c.in-Some.place, c.in-Some.path) c.in-Some.is c.next.ensures.steps in
+    rest_more deref_pair c.loop-place.place-iterator c.next.new.self c.next.result (c.in-Some.place, c.in-Some.path) c.in-Some.is c.next.ensures.steps in
     let sorted = sorted_rest c.in-Some.place.now (keys_of c.next.new.self) (subst (λ (es : Taken). IsStrictlySortedBy place_cmp (keys_of es)) left c.loop-place.invariant.sorted) in
     record {
       can_next = tt;
