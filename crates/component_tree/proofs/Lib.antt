@@ -5,3 +5,4 @@ pub mod Records
 pub mod LastComponent
 pub mod Keeping
 pub mod Trees
+pub mod Selecting

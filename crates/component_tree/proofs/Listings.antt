@@ -81,7 +81,7 @@ in_order_contains q names =
     ∙ ap is_some (get-from_entries nat_list_cmp_total (marked names) q) ∙ is_some-find text_cmp q (marked names)
     ∙ ap (list_any (eq_by_cmp text_cmp q)) (marked_names names) ∙ sym (by_bytes q names)
 
-names_contain : (files : FileMap) (path q : List ℕ) → list_any (bytes_eq q) (names_below files path) ≡ is_below files path q
+pub names_contain : (files : FileMap) (path q : List ℕ) → list_any (bytes_eq q) (names_below files path) ≡ is_below files path q
 names_contain files path q = in_order_contains q (filter_map (name_below path) (keys files)) ∙ named_is_below files path q
 
 -- ---- two lists in order with the same names are one

@@ -8,3 +8,5 @@ pub mod Taken
 pub mod PlainTree
 pub mod Reading
 pub mod Growth
+pub mod Selection
+pub mod TreeOf

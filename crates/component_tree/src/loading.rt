@@ -7,6 +7,7 @@ ghost use Rattle.component_tree.specs.PlainTree.{plain, records_in_all};
 ghost use Rattle.component_tree.specs.Reading.{with_file, loaded, tree_in};
 ghost use Rattle.component_tree.specs.Growth.{IsWithin, IsUpTo};
 ghost use Rattle.component_tree.specs.Step.{Answers};
+ghost use Rattle.component_tree.specs.TreeOf.{IsTreeOf};
 
 use crate::error::TreeError;
 use crate::growing::add_records;
@@ -87,6 +88,7 @@ pub fn load_tree<F: Files>(
 ) -> Result<Tree, TreeError>
     ensures cause { HasCause (F.faults files.old) (F.faults files.new) (result ≡ Err TreeError.Failed) }
     ensures told { (map : FileMap) → F.held files.old ≡ Some map → Answers (λ tree. plain tree.components) result (tree_in map folders.now) }
+    ensures selected { (map : FileMap) → F.held files.old ≡ Some map → IfOk result (λ tree. IsTreeOf map folders.now (plain tree.components)) }
     ensures same { F.held files.new ≡ F.held files.old }
 {
     let taken = walk(alloc, files, folders)?;

@@ -1,9 +1,11 @@
 //! Walking folders of components.
 
-ghost use Rattle.std.specs.Prelude.{◌≡◌, Some, Err, [], map};
+ghost use Rattle.std.specs.Prelude.{◌≡◌, Some, Err, IfOk};
+ghost use Rattle.std.specs.BTreeMap.{IsOrdered};
 ghost use Rattle.pl_base.specs.Faults.{HasCause};
 ghost use Rattle.pl_base.specs.FileMap.{FileMap};
 ghost use Rattle.component_tree.specs.Names.{folder_ending, stem_of};
+ghost use Rattle.component_tree.specs.Places.{place_cmp};
 ghost use Rattle.component_tree.specs.Step.{Answers};
 ghost use Rattle.component_tree.specs.Taken.{entries_of, with_variants, with_entry, with_entries, with_folder, with_folders, taken_in};
 
@@ -108,11 +110,14 @@ pub(crate) fn walk<F: Files>(
 ) -> Result<BTreeMap<Place, Name>, TreeError>
     ensures cause { HasCause (F.faults files.old) (F.faults files.new) (result ≡ Err TreeError.Failed) }
     ensures told { (map : FileMap) → F.held files.old ≡ Some map → Answers (λ taken. taken.entries) result (taken_in map folders.now) }
+    ensures in_order { IfOk result (λ taken. IsOrdered place_cmp taken) }
     ensures same { F.held files.new ≡ F.held files.old }
 {
     let mut taken = BTreeMap::new(alloc);
     for folder in folders {
         walk_folder(alloc, files, &mut taken, folder.text())?;
     }
+    // That the places are in order is known of a map whose entries were counted.
+    let _count = taken.len();
     Ok(taken)
 }
