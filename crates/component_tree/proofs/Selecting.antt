@@ -238,7 +238,7 @@ matched ending name id None at =
 matched ending name id (Some s) at =
     let whole : name ≡ s ++ ending = stem_some ending name s at in
     let right : Decides (bytes_eq (id ++ ending) name) (id ≡ s) =
-        (λ same. same_some id s (sym (stem_back ending id) ∙ ap (stem_of ending) ((bytes_eq-Decides (id ++ ending) name).0 same) ∙ at), λ e. (bytes_eq-Decides (id ++ ending) name).1 (ap (λ (x : List ℕ). x ++ ending) e ∙ sym whole)) in
+    (λ same. same_some id s (sym (stem_back ending id) ∙ ap (stem_of ending) ((bytes_eq-Decides (id ++ ending) name).0 same) ∙ at), λ e. (bytes_eq-Decides (id ++ ending) name).1 (ap (λ (x : List ℕ). x ++ ending) e ∙ sym whole)) in
     same_from_decides _ _ (bytes_eq-Decides id s) right
 
 -- ---- the folder of a component's variants
@@ -279,16 +279,16 @@ variants_of_id files path i f id =
     let q : Place = record { id = i; file = Some f } in
     let y : Entry → Path = λ e. cond e.folder None (by_stem (stem_of file_ending e.name) (cond (bytes_eq i id) (Some (path_below path e.name)) None)) in
     let gives : (e : Entry) → variant_gives id path q e ≡ cond (bytes_eq f e.name) (y e) None = λ e.
-        ap (λ (t : Bool). cond e.folder None (by_stem (stem_of file_ending e.name) (cond t (Some (path_below path e.name)) None))) (variant_eq i f id e.name)
-        ∙ by_entry e.folder (stem_of file_ending e.name) (bytes_eq i id) (bytes_eq f e.name) (Some (path_below path e.name)) in
+    ap (λ (t : Bool). cond e.folder None (by_stem (stem_of file_ending e.name) (cond t (Some (path_below path e.name)) None))) (variant_eq i f id e.name)
+    ∙ by_entry e.folder (stem_of file_ending e.name) (bytes_eq i id) (bytes_eq f e.name) (Some (path_below path e.name)) in
     given_listing files path f (variant_gives id path q) y gives
     ∙ by_id (is_below files path f) (is_folder files (path_below path f)) (stem_of file_ending f) (bytes_eq i id) (Some (path_below path f))
 
 no_variants : (files : FileMap) (path i id : List ℕ) → first_given (variant_gives id path (record { id = i; file = None })) (listing files path) ≡ None
 no_variants files path i id =
     none_given (variant_gives id path (record { id = i; file = None })) (λ e.
-        ap (λ (t : Bool). cond e.folder None (by_stem (stem_of file_ending e.name) (cond t (Some (path_below path e.name)) None))) (own_other i id e.name)
-        ∙ not_by_entry e.folder (stem_of file_ending e.name) (Some (path_below path e.name))) (listing files path)
+    ap (λ (t : Bool). cond e.folder None (by_stem (stem_of file_ending e.name) (cond t (Some (path_below path e.name)) None))) (own_other i id e.name)
+    ∙ not_by_entry e.folder (stem_of file_ending e.name) (Some (path_below path e.name))) (listing files path)
 
 -- ---- a folder of components
 
@@ -382,9 +382,9 @@ folder_gives_place files folder i None =
     let name = i ++ file_ending in
     let y : Entry → Path = λ e. cond e.folder None (Some (path_below folder e.name)) in
     let gives : (e : Entry) → entry_gives files folder q e ≡ cond (bytes_eq name e.name) (y e) None = λ e.
-        ap (λ (x : Path). cond e.folder x (own_gives q (stem_of file_ending e.name) (path_below folder e.name))) (no_folder files i (stem_of folder_ending e.name) (path_below folder e.name))
-        ∙ ap (λ (x : Path). cond e.folder None x) (own_of i (stem_of file_ending e.name) (path_below folder e.name) ∙ ap (λ (b : Bool). cond b (Some (path_below folder e.name)) None) (matched file_ending e.name i (stem_of file_ending e.name) refl))
-        ∙ own_entry e.folder (bytes_eq name e.name) (Some (path_below folder e.name)) in
+    ap (λ (x : Path). cond e.folder x (own_gives q (stem_of file_ending e.name) (path_below folder e.name))) (no_folder files i (stem_of folder_ending e.name) (path_below folder e.name))
+    ∙ ap (λ (x : Path). cond e.folder None x) (own_of i (stem_of file_ending e.name) (path_below folder e.name) ∙ ap (λ (b : Bool). cond b (Some (path_below folder e.name)) None) (matched file_ending e.name i (stem_of file_ending e.name) refl))
+    ∙ own_entry e.folder (bytes_eq name e.name) (Some (path_below folder e.name)) in
     given_listing files folder name (entry_gives files folder q) y gives
     ∙ own_there (is_below files folder name) (is_folder files (path_below folder name)) (Some (path_below folder name))
 folder_gives_place files folder i (Some f) =
@@ -392,9 +392,9 @@ folder_gives_place files folder i (Some f) =
     let name = i ++ folder_ending in
     let y : Entry → Path = λ e. cond e.folder (variant_in files (path_below folder e.name) f) None in
     let gives : (e : Entry) → entry_gives files folder q e ≡ cond (bytes_eq name e.name) (y e) None = λ e.
-        ap (λ (x : Path). cond e.folder (folder_gives files q (stem_of folder_ending e.name) (path_below folder e.name)) x) (no_own i f (stem_of file_ending e.name) (path_below folder e.name))
-        ∙ ap (λ (x : Path). cond e.folder x None) (folder_of files i f (stem_of folder_ending e.name) (path_below folder e.name) ∙ ap (λ (b : Bool). cond b (variant_in files (path_below folder e.name) f) None) (matched folder_ending e.name i (stem_of folder_ending e.name) refl))
-        ∙ folder_entry e.folder (bytes_eq name e.name) (variant_in files (path_below folder e.name) f) in
+    ap (λ (x : Path). cond e.folder (folder_gives files q (stem_of folder_ending e.name) (path_below folder e.name)) x) (no_own i f (stem_of file_ending e.name) (path_below folder e.name))
+    ∙ ap (λ (x : Path). cond e.folder x None) (folder_of files i f (stem_of folder_ending e.name) (path_below folder e.name) ∙ ap (λ (b : Bool). cond b (variant_in files (path_below folder e.name) f) None) (matched folder_ending e.name i (stem_of folder_ending e.name) refl))
+    ∙ folder_entry e.folder (bytes_eq name e.name) (variant_in files (path_below folder e.name) f) in
     let path = path_below folder name in
     given_listing files folder name (entry_gives files folder q) y gives
     ∙ variant_there (is_below files folder name) (is_folder files path) (is_below files path f) (is_folder files (path_below path f)) (stem_of file_ending f) (Some (path_below path f))
@@ -411,9 +411,9 @@ folders_give files q (folder ∷ folders) t more e =
     let a = bind_ok (with_folder files t folder) (λ m. with_folders files m folders) more e in
     let b = bind_ok (entries_of files folder) (λ es. with_entries files t folder es) a.0 a.1 in
     let here : found q a.0 ≡ option_or (found q t) (cond (is_there files folder q.id q.file) (Some (path_of folder q.id q.file)) None) =
-        entries_give files folder q b.0 t a.0 b.2
-        ∙ ap (λ (es : List Entry). option_or (found q t) (first_given (entry_gives files folder q) es)) (sym (entries_ok files folder b.0 b.1))
-        ∙ ap (option_or (found q t)) (folder_gives_place files folder q.id q.file) in
+    entries_give files folder q b.0 t a.0 b.2
+    ∙ ap (λ (es : List Entry). option_or (found q t) (first_given (entry_gives files folder q) es)) (sym (entries_ok files folder b.0 b.1))
+    ∙ ap (option_or (found q t)) (folder_gives_place files folder q.id q.file) in
     folders_give files q folders a.0 more a.2
     ∙ ap (λ (o : Path). option_or o (chosen files folders q)) here
     ∙ or_assoc (found q t) (cond (is_there files folder q.id q.file) (Some (path_of folder q.id q.file)) None) (chosen files folders q)

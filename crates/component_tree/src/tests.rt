@@ -16,14 +16,6 @@ fn names(alloc: Global, texts: &[&str]) -> Result<Vec<Name>, Memory> {
     Ok(names)
 }
 
-fn files_of(alloc: Global, held: &[(&str, &str)]) -> Result<MemFiles, Memory> {
-    let mut files = MemFiles::new(alloc, List::new(alloc));
-    for (path, text) in held {
-        files.put(path, text.as_bytes())?;
-    }
-    Ok(files)
-}
-
 /// A tree as text, and a refusal by its name and path.
 fn told(alloc: Global, answer: &Result<Tree, TreeError>) -> Result<String, AllocError> {
     match answer {
@@ -49,105 +41,37 @@ fn told(alloc: Global, answer: &Result<Tree, TreeError>) -> Result<String, Alloc
     }
 }
 
+/// Files of the folders `a`, `b` and `c`, each of one record where no text follows, and what they
+/// give.
+const OVERLAYS: &str = "\
+b/x.pcrlock, a/x.pcrlock=[], c/y.pcrlock => x - 0;y - 1;
+a/x.pcrlock.d/1.pcrlock=[], b/x.pcrlock.d/1.pcrlock, b/x.pcrlock.d/2.pcrlock => x 1 0;x 2 1;
+a/x.pcrlock.d/1.pcrlock, b/y.pcrlock.d/1.pcrlock => x 1 1;y 1 1;
+a/x.pcrlock.d/1.pcrlock, b/x.pcrlock => x - 1;x 1 1;
+a/x.pcrlock=, b/x.pcrlock => 
+a/x.pcrlock=, b/x.pcrlock, b/x.pcrlock.d/1.pcrlock => x 1 1;
+a/x.pcrlock.d/1.pcrlock=, b/x.pcrlock.d/1.pcrlock, b/x.pcrlock.d/2.pcrlock => x 2 1;
+a/x.pcrlock.d/1.pcrlock=, b/x.pcrlock.d/1.pcrlock => 
+a/650-kernel-x.pcrlock, a/650-kernel.pcrlock => 650-kernel - 1;650-kernel-x - 1;
+a/x.pcrlock.d/1.pcrlock, a/x.pcrlock.d/1-a.pcrlock => x 1-a 1;x 1 1;
+a/x.pcrlock/1.pcrlock, a/y.pcrlock.d, a/z.txt, a/w.pcrlock.d/v/1.pcrlock => 
+a/x.pcrlock=?, b/.pcrlock => bad name b/.pcrlock
+a/x y.pcrlock => bad name a/x y.pcrlock
+a/x.pcrlock.d/\u{e4}.pcrlock => bad name a/x.pcrlock.d/\u{e4}.pcrlock
+a/.pcrlock.d/1.pcrlock => bad name a/.pcrlock.d
+a/y.pcrlock=?, b/x.pcrlock={} => malformed b/x.pcrlock: no list of records";
+
 #[test]
 fn folders_are_laid_over_one_another(rt: HostRuntime) -> Result<(), Failure> {
     let alloc = rt.alloc();
-    let rows: [(&[(&str, &str)], &str); 16] = [
-        (&[], ""),
-        // the first of several folders, of component files and of one id's variants alike
-        (
-            &[
-                ("b/x.pcrlock", ONE),
-                ("a/x.pcrlock", NONE),
-                ("c/y.pcrlock", ONE),
-            ],
-            "x - 0;y - 1;",
-        ),
-        (
-            &[
-                ("a/x.pcrlock.d/1.pcrlock", NONE),
-                ("b/x.pcrlock.d/1.pcrlock", ONE),
-                ("b/x.pcrlock.d/2.pcrlock", ONE),
-            ],
-            "x 1 0;x 2 1;",
-        ),
-        // names of two ids don't hide each other
-        (
-            &[
-                ("a/x.pcrlock.d/1.pcrlock", ONE),
-                ("b/y.pcrlock.d/1.pcrlock", ONE),
-            ],
-            "x 1 1;y 1 1;",
-        ),
-        // a component's own file stands first, also from another folder
-        (
-            &[("a/x.pcrlock.d/1.pcrlock", ONE), ("b/x.pcrlock", ONE)],
-            "x - 1;x 1 1;",
-        ),
-        // an empty file hides its name alone
-        (&[("a/x.pcrlock", ""), ("b/x.pcrlock", ONE)], ""),
-        (
-            &[
-                ("a/x.pcrlock", ""),
-                ("b/x.pcrlock", ONE),
-                ("b/x.pcrlock.d/1.pcrlock", ONE),
-            ],
-            "x 1 1;",
-        ),
-        (
-            &[
-                ("a/x.pcrlock.d/1.pcrlock", ""),
-                ("b/x.pcrlock.d/1.pcrlock", ONE),
-                ("b/x.pcrlock.d/2.pcrlock", ONE),
-            ],
-            "x 2 1;",
-        ),
-        // ids of which one begins another, in the order of the ids
-        (
-            &[
-                ("a/650-kernel-x.pcrlock", ONE),
-                ("a/650-kernel.pcrlock", ONE),
-            ],
-            "650-kernel - 1;650-kernel-x - 1;",
-        ),
-        // variants in the order of their files' names
-        (
-            &[
-                ("a/x.pcrlock.d/1.pcrlock", ONE),
-                ("a/x.pcrlock.d/1-a.pcrlock", ONE),
-            ],
-            "x 1-a 1;x 1 1;",
-        ),
-        // a folder with the ending of files, a file with that of folders, and other names
-        (
-            &[
-                ("a/x.pcrlock/1.pcrlock", ONE),
-                ("a/y.pcrlock.d", ONE),
-                ("a/z.txt", ONE),
-                ("a/w.pcrlock.d/v/1.pcrlock", ONE),
-            ],
-            "",
-        ),
-        // a bad name in a folder comes before a bad file in an earlier one
-        (
-            &[("a/x.pcrlock", "?"), ("b/.pcrlock", ONE)],
-            "bad name b/.pcrlock",
-        ),
-        (&[("a/x y.pcrlock", ONE)], "bad name a/x y.pcrlock"),
-        (
-            &[("a/x.pcrlock.d/\u{e4}.pcrlock", ONE)],
-            "bad name a/x.pcrlock.d/\u{e4}.pcrlock",
-        ),
-        (&[("a/.pcrlock.d/1.pcrlock", ONE)], "bad name a/.pcrlock.d"),
-        // files are read in the order of the tree
-        (
-            &[("a/y.pcrlock", "?"), ("b/x.pcrlock", "{}")],
-            "malformed b/x.pcrlock: no list of records",
-        ),
-    ];
     let folders = names(alloc, &["a", "b", "c", "missing"])?;
-    for (held, expected) in rows {
-        let mut files = files_of(alloc, held)?;
+    for line in OVERLAYS.lines() {
+        let (held, expected) = line.split_once(" => ").ok_or("no answer in a line")?;
+        let mut files = MemFiles::new(alloc, List::new(alloc));
+        for file in held.split(", ") {
+            let (path, text) = file.split_once('=').unwrap_or((file, ONE));
+            files.put(path, text.as_bytes())?;
+        }
         let answer = load_tree(alloc, &mut files, &folders);
         assert_eq!(rt; told(alloc, &answer)?.as_str(), expected);
     }
@@ -224,11 +148,6 @@ fn counts_are_limited(rt: HostRuntime) -> Result<(), Failure> {
 fn sizes_are_limited(rt: HostRuntime) -> Result<(), Failure> {
     let alloc = rt.alloc();
     let most = array(alloc, 256)?;
-    // 65,536 records in all
-    assert_eq!(rt;
-        counted(alloc, "", 256, most.as_str())?.as_str(),
-        "256 components"
-    );
     let mut files = MemFiles::new(alloc, List::new(alloc));
     for number in 0..64 {
         for variant in 0..4 {
@@ -236,14 +155,18 @@ fn sizes_are_limited(rt: HostRuntime) -> Result<(), Failure> {
             files.put(path.as_str(), most.as_str().as_bytes())?;
         }
     }
-    // and one more
+    // 65,536 records in all, and one more
+    let folders = names(alloc, &["f"])?;
+    assert!(rt; load_tree(alloc, &mut files, &folders).is_ok());
     files.put("f/x.pcrlock", ONE.as_bytes())?;
-    let answer = load_tree(alloc, &mut files, &names(alloc, &["f"])?);
+    let answer = load_tree(alloc, &mut files, &folders);
     assert_eq!(rt; told(alloc, &answer)?.as_str(), "too many Total");
     let mut wide = String::from_str(alloc, NONE)?;
-    for _ in 2..1_048_576 {
-        wide.push(' ')?;
+    let blanks = "                                ";
+    for _ in 0..32_767 {
+        wide.push_str(blanks)?;
     }
+    wide.push_str(&blanks[2..])?;
     assert_eq!(rt;
         counted(alloc, "", 1, wide.as_str())?.as_str(),
         "1 components"
