@@ -1,0 +1,12 @@
+pub mod Names
+pub mod Places
+pub mod Limits
+pub mod Ascending
+pub mod Step
+pub mod Listing
+pub mod Taken
+pub mod PlainTree
+pub mod Reading
+pub mod Growth
+pub mod Selection
+pub mod TreeOf
