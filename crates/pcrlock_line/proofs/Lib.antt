@@ -1,3 +1,4 @@
 pub mod Refusals
 pub mod Composed
 pub mod Replaced
+pub mod Devices

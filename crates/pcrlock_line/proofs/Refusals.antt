@@ -8,8 +8,18 @@ use Rattle.tpm_device.specs.declared.device.BeginError.TheVariants as begin
 use Rattle.tpm_device.specs.declared.device.ExecError.{ExecError}
 use Rattle.tpm_device.specs.declared.device.ExecError.TheVariants as exec
 use Rattle.tpm_model.specs.declared.command.Command.{Command}
-use Rattle.tpm_device.specs.Stored.{Stored, Holds, BeginGives, ExecuteStores}
+use Rattle.tpm_device.specs.Stored.{Stored, Holds, TooLarge, Malformed, BadRule, BeginGives, ExecuteStores}
 use Rattle.pcrlock_line.specs.Asked.{IsStopped}
+
+-- what the device refuses is what is stored
+pub kept_large : (kept : Stored) (error : BeginError) (size : ℕ) (now : Option Parts) → error ≡ begin.TooLarge size → BeginGives kept (Err error) now → kept ≡ TooLarge size
+kept_large kept error size now e h = subst (λ (x : BeginError). BeginGives kept (Err x) now) e h
+
+pub kept_malformed : (kept : Stored) (error : BeginError) (place : ℕ) (now : Option Parts) → error ≡ begin.Malformed place → BeginGives kept (Err error) now → kept ≡ Malformed place
+kept_malformed kept error place now e h = subst (λ (x : BeginError). BeginGives kept (Err x) now) e h
+
+pub kept_rule : (kept : Stored) (error : BeginError) (rule : StateRule) (now : Option Parts) → error ≡ begin.BadRule rule → BeginGives kept (Err error) now → kept ≡ BadRule rule
+kept_rule kept error rule now e h = subst (λ (x : BeginError). BeginGives kept (Err x) now) e h
 
 pub too_large : (s : Parts) (error : BeginError) (size : ℕ) (now : Option Parts) → error ≡ begin.TooLarge size → BeginGives (Holds s) (Err error) now → ⊥
 too_large s error size now e h = let refused = subst (λ (x : BeginError). BeginGives (Holds s) (Err x) now) e h in cc refused

@@ -3,4 +3,6 @@ pub mod Outcome
 pub mod Causes
 pub mod Content
 pub mod Asked
+pub mod Begun
 pub mod Changes
+pub mod Stopped

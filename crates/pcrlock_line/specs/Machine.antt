@@ -3,17 +3,33 @@ use Rattle.std.specs.Prelude.{◌≡◌, ℕ, List, Option, Some}
 use Rattle.pl_base.specs.FileMap.{FileMap}
 use Rattle.tpm_model.specs.declared.parts.Parts.{Parts}
 use Rattle.tpm_model.specs.Rules.{HasRules}
-use Rattle.tpm_device.specs.Stored.{Stored, Holds}
+use Rattle.tpm_device.specs.Stored.{Stored, Holds, TooLarge, Malformed, BadRule}
 
--- the files, the TPM's stored state, and the random words to come
+-- the files, what the TPM's device stores, and the random words to come
 pub record Machine : Type 0 where
+  pub files : FileMap
+  pub device : Stored
+  pub draws : List (List ℕ)
+
+-- a machine whose device stores a state
+pub record Live : Type 0 where
   pub files : FileMap
   pub state : Parts
   pub draws : List (List ℕ)
 
--- the objects tell this machine, whose state has its rules
+abbrev pub machine : Live → Machine
+machine live = record { files = live.files; device = Holds live.state; draws = live.draws }
+
+-- a state that is stored has its rules
+abbrev pub HasStoredRules : Stored → Type 0
+HasStoredRules (Holds s) = HasRules s
+HasStoredRules (TooLarge size) = Unit {0}
+HasStoredRules (Malformed place) = Unit {0}
+HasStoredRules (BadRule rule) = Unit {0}
+
+-- the objects tell this machine, and a state that is stored has its rules
 pub record Tells (held : Option FileMap) (stored : Option Stored) (words : Option (List (List ℕ))) (m : Machine) : Type 0 where
   pub files : held ≡ Some m.files
-  pub state : stored ≡ Some (Holds m.state)
+  pub state : stored ≡ Some m.device
   pub draws : words ≡ Some m.draws
-  pub rules : HasRules m.state
+  pub rules : HasStoredRules m.device

@@ -1,5 +1,5 @@
 -- What a command comes to.
-use Rattle.std.specs.Prelude.{◌≡◌, ℕ, List, Option}
+use Rattle.std.specs.Prelude.{◌≡◌, ℕ, List, [], ◌∷◌, Option}
 use Rattle.pl_base.specs.FileMap.{FileMap}
 use Rattle.hash_bank.specs.HashedString.{HashedString}
 use Rattle.pcrlock_words.specs.declared.answer.Answer.{Answer}
@@ -13,11 +13,21 @@ pub data Ending : Type 0 where
   Fine : List ℕ → Ending
   Refused : Answer → Ending
 
--- the end, the machine afterwards, and the strings that were hashed
+-- the end; the machine afterwards; the strings that were hashed; and the machine after each number of
+-- the command's changes to files and TPM, from none to all
 pub record Outcome : Type 0 where
   pub ending : Ending
   pub after : Machine
   pub hashed : List HashedString
+  pub stops : List Machine
+
+-- an end without a change
+abbrev pub unchanged : Ending → Machine → Outcome
+unchanged ending m = record { ending = ending; after = m; hashed = []; stops = m ∷ [] }
+
+-- a refusal before anything is changed
+abbrev pub refused_line : Answer → Machine → Outcome
+refused_line answer m = unchanged (Refused answer) m
 
 -- a reply as the end of a command
 abbrev pub ending_of : Reply → Ending

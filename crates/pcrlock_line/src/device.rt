@@ -1,31 +1,86 @@
 //! The device that a command uses.
-ghost use Rattle.std.specs.Prelude.{is_ok, ◌≡◌, ℕ, true, Some, IfOk, IfErr, IfSome, Result, Ok, Err};
+ghost use Rattle.std.specs.Prelude.{[], is_none, ◌≡◌, ℕ, true, None, Option, Some, IfOk, IfErr, IfSome, Result, Ok, Err};
 ghost use Rattle.tpm_model.specs.declared.parts.Parts.{Parts};
-ghost use Rattle.tpm_device.specs.Stored.{Stored, Holds};
+ghost use Rattle.tpm_device.specs.Stored.{Stored, Holds, TooLarge, Malformed, BadRule};
 ghost use Rattle.tpm_model.specs.Respond.{is_offered};
 ghost use Rattle.tpm_model.specs.Rules.{HasRules};
 ghost use Rattle.pcrlock_line.specs.Asked.{IsAnswered, IsStopped};
+ghost use Rattle.pcrlock_line.specs.Begun.{rule_name as name_of_rule, state_refusal, IsBegun};
 ghost use Rattle.pcrlock_line.specs.Causes.{HasCauses};
 
 use crate::Stop;
+use pcrlock_words::{Answer, Place};
+use pl_base::{Memory, Name};
 use std::alloc::Global;
 use tpm_device::{BeginError, ExecError, Tpm};
-use tpm_model::{Command, Response};
+use tpm_model::{Command, Response, StateRule};
 
-/// Makes the device ready. What is stored stays.
-pub fn ready<T: Tpm>(alloc: Global, tpm: &mut T) -> Result<Result<(), BeginError>, Stop>
+/// The name of a rule of states, in lower case.
+fn rule_name(rule: StateRule) -> &'static str
+    ensures { result.now ≡ name_of_rule rule }
+{
+    match rule {
+        StateRule::Banks => "banks",
+        StateRule::Counters => "counters",
+        StateRule::SessionOrder => "sessionorder",
+        StateRule::Fold => "fold",
+        StateRule::OrMember => "ormember",
+        StateRule::PcrNow => "pcrnow",
+        StateRule::NvNow => "nvnow",
+        StateRule::Noted => "noted",
+        StateRule::IndexOrder => "indexorder",
+        StateRule::IndexAttributes => "indexattributes",
+        StateRule::ObjectOrder => "objectorder",
+        StateRule::Secret => "secret",
+    }
+}
+
+/// The answer for a state file of too many bytes.
+fn too_large(alloc: Global, size: u64) -> Result<Answer, Memory>
+    ensures { IfOk result (λ answer. Some answer ≡ state_refusal [] (TooLarge size)) }
+{
+    Ok(Answer::Limit {
+        kind: Name::from_text(alloc, "state-bytes")?,
+        number: size,
+    })
+}
+
+/// The answer for a state file that is malformed from the place on.
+fn malformed(alloc: Global, path: &Name, place: u32) -> Result<Answer, Memory>
+    ensures { IfOk result (λ answer. Some answer ≡ state_refusal path.now (Malformed place)) }
+{
+    Ok(Answer::Malformed {
+        path: path.copy(alloc)?,
+        place: Place::At(u64::from(place)),
+    })
+}
+
+/// The answer for a state file whose state breaks the rule.
+fn breaks_rule(alloc: Global, path: &Name, rule: StateRule) -> Result<Answer, Memory>
+    ensures { IfOk result (λ answer. Some answer ≡ state_refusal path.now (BadRule rule)) }
+{
+    Ok(Answer::Malformed {
+        path: path.copy(alloc)?,
+        place: Place::Rule(Name::from_text(alloc, rule_name(rule))?),
+    })
+}
+
+/// Makes the device ready, or answers why what is stored, in the state file at the path, is no
+/// state. What is stored stays.
+pub fn ready<T: Tpm>(alloc: Global, tpm: &mut T, path: &Name) -> Result<Option<Answer>, Stop>
     ensures causes { HasCauses (0, 0, T.faults tpm.old, 0) (0, 0, T.faults tpm.new, 0) result }
-    ensures told { (s : Parts) → T.stored tpm.old ≡ Some (Holds s) → IfOk result (λ answer. (answer ≡ Ok tt) × (T.live tpm.new ≡ Some s) × (T.ready tpm.new ≡ true)) }
-    ensures readiness { IfOk result (λ answer. T.ready tpm.new ≡ is_ok answer) }
+    ensures told { (kept : Stored) → T.stored tpm.old ≡ Some kept → IfOk result (λ refusal. refusal ≡ state_refusal path.now kept) }
+    ensures live { (s : Parts) → T.stored tpm.old ≡ Some (Holds s) → IfOk result (λ refusal. IsBegun s (T.ready tpm.new) (T.live tpm.new)) }
+    ensures readiness { IfOk result (λ refusal. T.ready tpm.new ≡ is_none refusal) }
     ensures same { T.stored tpm.new ≡ T.stored tpm.old }
 {
     match tpm.begin(alloc) {
-        Ok(()) => Ok(Ok(())),
+        Ok(()) => Ok(None),
+        Err(BeginError::TooLarge(size)) => Ok(Some(too_large(alloc, size)?)),
+        Err(BeginError::Malformed(place)) => Ok(Some(malformed(alloc, path, place)?)),
+        Err(BeginError::BadRule(rule)) => Ok(Some(breaks_rule(alloc, path, rule)?)),
         Err(BeginError::Failed) => Err(Stop::TpmFault),
         Err(BeginError::Memory) => Err(Stop::Memory),
-        Err(BeginError::TooLarge(size)) => Ok(Err(BeginError::TooLarge(size))),
-        Err(BeginError::Malformed(place)) => Ok(Err(BeginError::Malformed(place))),
-        Err(BeginError::BadRule(rule)) => Ok(Err(BeginError::BadRule(rule))),
     }
 }
 

@@ -1,6 +1,5 @@
 -- What `tpm-extend` does.
-use Rattle.std.specs.Prelude.{◌≡◌, ◌⊎◌, ℕ, ◌+◌, ◌==◌, Bool, true, false, if◌then◌else◌, List, [], Option, None, Some}
-use Rattle.pl_base.specs.FileMap.{FileMap}
+use Rattle.std.specs.Prelude.{ℕ, ◌+◌, ◌==◌, Bool, true, false, if◌then◌else◌, List, [], ◌∷◌, Option, None, Some}
 use Rattle.hash_bank.specs.declared.bank.Bank.TheVariants.{Sha1, Sha256, Sha384, Sha512}
 use Rattle.hash_bank.specs.Hash.{digest_in}
 use Rattle.tpm_model.specs.declared.response.Response.{Response}
@@ -8,10 +7,10 @@ use Rattle.tpm_model.specs.declared.response.Response.TheVariants as answer
 use Rattle.tpm_model.specs.declared.parts.Parts.{Parts}
 use Rattle.tpm_model.specs.Pcrs.{after_digests}
 use Rattle.tpm_model.specs.World.{World, extended_world}
-use Rattle.tpm_device.specs.Stored.{Stored}
 use Rattle.pcrlock_words.specs.declared.answer.Answer.TheVariants as said
-use Rattle.pcrlock_line.specs.Machine.{Machine, Tells}
-use Rattle.pcrlock_line.specs.Outcome.{Outcome, Fine, Refused}
+use Rattle.pcrlock_line.specs.Machine.{Machine, Live, machine}
+use Rattle.pcrlock_line.specs.Outcome.{Outcome, Fine, refused_line}
+use Rattle.pcrlock_line.specs.Begun.{by_device}
 
 -- whether the TPM accepted the extend
 abbrev pub is_extended : Response → Bool
@@ -25,17 +24,30 @@ extended_parts pcr bytes s = record s {
   update_counter = s.update_counter + 1;
 }
 
--- the PCR is extended, and nothing is printed; the counter's end is the one refusal
-abbrev pub tpm_extend_line : ℕ → List ℕ → Machine → Outcome
-tpm_extend_line pcr bytes m =
-    if m.state.update_counter == 4294967295
-    then record { ending = Refused (said.CounterEnd false); after = m; hashed = [] }
-    else record { ending = Fine []; after = record m { state = extended_parts pcr bytes m.state }; hashed = [] }
+-- the machine with that state
+abbrev pub extended_machine : ℕ → List ℕ → Live → Machine
+extended_machine pcr bytes m = machine (record m { state = extended_parts pcr bytes m.state })
 
--- the objects tell one of two machines
-abbrev pub StopsAround : Option FileMap → Option Stored → Option (List (List ℕ)) → Machine → Machine → Type 0
-StopsAround held stored words before after = Tells held stored words before ⊎ Tells held stored words after
+-- the PCR is extended, and nothing is printed; the counter's end is the one refusal
+abbrev pub extended_line : ℕ → List ℕ → Live → Outcome
+extended_line pcr bytes m =
+    if m.state.update_counter == 4294967295
+    then refused_line (said.CounterEnd false) (machine m)
+    else record {
+      ending = Fine [];
+      after = extended_machine pcr bytes m;
+      hashed = [];
+      stops = machine m ∷ extended_machine pcr bytes m ∷ [];
+    }
+
+-- `tpm-extend` over what is stored at the path
+abbrev pub tpm_extend_line : List ℕ → ℕ → List ℕ → Machine → Outcome
+tpm_extend_line path pcr bytes m = by_device m.device path m (extended_line pcr bytes)
+
+-- the state after `tpm-extend`
+abbrev pub state_after : ℕ → List ℕ → Parts → Parts
+state_after pcr bytes s = if s.update_counter == 4294967295 then s else extended_parts pcr bytes s
 
 -- the world after `tpm-extend`: it follows the state
-abbrev pub tpm_extend_world : ℕ → List ℕ → Machine → World → World
-tpm_extend_world pcr bytes m w = extended_world (tpm_extend_line pcr bytes m).after.state w
+abbrev pub extend_world : ℕ → List ℕ → Parts → World → World
+extend_world pcr bytes s w = extended_world (state_after pcr bytes s) w

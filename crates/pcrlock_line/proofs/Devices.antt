@@ -1,0 +1,62 @@
+-- A command by what its device stores.
+use Rattle.std.proofs.Common.{◌≡◌, ◌⊎◌, ℕ, List, inl, inr, refl, sym, ap, ◌∙◌, subst}
+use Rattle.std.specs.Prelude.{Option, None, Some, IfOk, IfErr, Result, Ok, Err}
+use Rattle.pl_base.specs.FileMap.{FileMap}
+use Rattle.tpm_model.specs.declared.parts.Parts.{Parts}
+use Rattle.tpm_device.specs.Stored.{Stored, Holds, TooLarge, Malformed, BadRule}
+use Rattle.pcrlock_words.specs.declared.answer.Answer.{Answer}
+use Rattle.pcrlock_line.specs.declared.reply.Reply.{Reply}
+use Rattle.pcrlock_line.specs.declared.reply.Reply.TheVariants as reply
+use Rattle.pcrlock_line.specs.declared.stop.Stop.{Stop}
+use Rattle.pcrlock_line.specs.Machine.{Machine, Live, Tells, machine}
+use Rattle.pcrlock_line.specs.Outcome.{Outcome, Gives, refused_line}
+use Rattle.pcrlock_line.specs.Stopped.{IsStoredSo, Same, StandsAt, StandsAmong}
+use Rattle.pcrlock_line.specs.Begun.{state_refusal, by_device}
+
+-- no state is stored: the refusal is the outcome
+pub refused_by : (kept : Stored) (path : List ℕ) (m : Machine) (work : Live → Outcome) (answer : Answer) → Some answer ≡ state_refusal path kept
+    → by_device kept path m work ≡ refused_line answer m
+refused_by (Holds s) path m work answer e = absurd (cc e)
+refused_by (TooLarge size) path m work answer e = let same : answer ≡ _ = cc in ap (λ a. refused_line a m) (sym same)
+refused_by (Malformed at) path m work answer e = let same : answer ≡ _ = cc in ap (λ a. refused_line a m) (sym same)
+refused_by (BadRule broken) path m work answer e = let same : answer ≡ _ = cc in ap (λ a. refused_line a m) (sym same)
+
+-- a state is stored: what its work comes to is the outcome
+pub begun_by : (kept : Stored) (path : List ℕ) (m : Machine) (work : Live → Outcome) (P : Outcome → Type 0) → None ≡ state_refusal path kept
+    → ((s : Parts) → kept ≡ Holds s → P (work (record { files = m.files; state = s; draws = m.draws })))
+    → P (by_device kept path m work)
+begun_by (Holds s) path m work P e h = h s refl
+begun_by (TooLarge size) path m work P e h = absurd (cc e)
+begun_by (Malformed at) path m work P e h = absurd (cc e)
+begun_by (BadRule broken) path m work P e h = absurd (cc e)
+
+-- the objects that tell a machine tell it with the state that it stores
+pub told_live : (held : Option FileMap) (stored : Option Stored) (words : Option (List (List ℕ))) (m : Machine) (s : Parts) → m.device ≡ Holds s
+    → Tells held stored words m → Tells held stored words (machine (record { files = m.files; state = s; draws = m.draws }))
+told_live held stored words m s e t =
+    let M : Stored → Machine = λ d. record { files = m.files; device = d; draws = m.draws } in
+    subst (λ d. Tells held stored words (M d)) e t
+
+-- a machine that is told stands
+pub stands : (held : Option FileMap) (stored : Option Stored) (words : Option (List (List ℕ))) (m : Machine) → Tells held stored words m → StandsAt held stored m
+stands held stored words m t = record { files = t.files; device = m.device; tells = t.state; rules = t.rules; same = Same }
+
+-- a device that was refused, and keeps what it stored
+pub gives_refused : (held : Option FileMap) (stored : Option Stored) (words : Option (List (List ℕ))) (path : List ℕ) (m : Machine) (work : Live → Outcome) (answer : Answer)
+    → Some answer ≡ state_refusal path m.device → Tells held stored words m
+    → Gives held stored words (reply.Refused answer) (by_device m.device path m work)
+gives_refused held stored words path m work answer e t =
+    subst (λ (o : Outcome). Gives held stored words (reply.Refused answer) o) (sym (refused_by m.device path m work answer e)) (record { ending = refl; tells = t })
+
+-- a stop before any change
+pub stops_first : (held : Option FileMap) (stored : Option Stored) (path : List ℕ) (m : Machine) (work : Live → Outcome)
+    → StandsAt held stored m
+    → ((s : Parts) → m.device ≡ Holds s → StandsAmong held stored (work (record { files = m.files; state = s; draws = m.draws })).stops)
+    → StandsAmong held stored (by_device m.device path m work).stops
+stops_first held stored path m work at h = by m.device refl
+  where
+    by : (kept : Stored) → m.device ≡ kept → StandsAmong held stored (by_device kept path m work).stops
+    by (Holds s) e = h s e
+    by (TooLarge size) e = inl at
+    by (Malformed place) e = inl at
+    by (BadRule broken) e = inl at

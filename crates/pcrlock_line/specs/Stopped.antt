@@ -1,0 +1,35 @@
+-- What stands after a stop: files and stored state are those after some of the command's changes. The
+-- open sessions and the number of the next one are left free.
+use Rattle.std.specs.Prelude.{◌≡◌, ◌⊎◌, List, [], ◌∷◌, Option, Some}
+use Rattle.pl_base.specs.FileMap.{FileMap}
+use Rattle.tpm_model.specs.declared.parts.Parts.{Parts}
+use Rattle.tpm_device.specs.Stored.{Stored, Holds}
+use Rattle.pcrlock_line.specs.Machine.{Machine, HasStoredRules}
+
+-- the states differ at most in the open sessions and the number of the next one
+pub record DiffersInSessions (before now : Parts) : Type 0 where
+  pub banks : now.banks ≡ before.banks
+  pub pcrs : now.pcrs ≡ before.pcrs
+  pub update_counter : now.update_counter ≡ before.update_counter
+  pub write_counter : now.write_counter ≡ before.write_counter
+  pub next_object : now.next_object ≡ before.next_object
+  pub indices : now.indices ≡ before.indices
+  pub objects : now.objects ≡ before.objects
+
+-- the same is stored, but for sessions
+pub data IsStoredSo : Stored → Stored → Type 0 where
+  Same : {stored : Stored} → IsStoredSo stored stored
+  ButSessions : {before now : Parts} → DiffersInSessions before now → IsStoredSo (Holds before) (Holds now)
+
+-- the objects tell the machine's files, and its stored state but for sessions
+pub record StandsAt (held : Option FileMap) (stored : Option Stored) (m : Machine) : Type 0 where
+  pub files : held ≡ Some m.files
+  pub device : Stored
+  pub tells : stored ≡ Some device
+  pub rules : HasStoredRules device
+  pub same : IsStoredSo m.device device
+
+-- the objects tell those of one of the machines
+abbrev pub StandsAmong : Option FileMap → Option Stored → List Machine → Type 0
+StandsAmong held stored [] = ⊥
+StandsAmong held stored (m ∷ machines) = StandsAt held stored m ⊎ StandsAmong held stored machines
