@@ -60,3 +60,12 @@ stops_first held stored path m work at h = by m.device refl
     by (TooLarge size) e = inl at
     by (Malformed place) e = inl at
     by (BadRule broken) e = inl at
+
+-- what is stored stays, and so does what is told
+pub kept_tells : (held : Option FileMap) (stored now : Option Stored) (words : Option (List (List ℕ))) (m : Machine) → now ≡ stored → Tells held stored words m → Tells held now words m
+kept_tells held stored now words m same t = record { files = t.files; state = same ∙ t.state; draws = t.draws; rules = t.rules }
+
+-- a device that is ready with the state that it stores tells that state
+pub tells_begun : (held : Option FileMap) (stored now : Option Stored) (words : Option (List (List ℕ))) (m : Machine) (s : Parts) → now ≡ stored → m.device ≡ Holds s
+    → Tells held stored words m → Tells held now words (machine (record { files = m.files; state = s; draws = m.draws }))
+tells_begun held stored now words m s same e t = told_live held now words m s e (kept_tells held stored now words m same t)

@@ -1,5 +1,5 @@
 -- The TPM's extend by the hashes of some bytes is that of the definition.
-use Rattle.std.proofs.Common.{◌≡◌, ◌⊎◌, ℕ, ◌+◌, ◌≤◌, Bool, true, false, cond, List, [], inl, inr, refl, sym, ap, ◌∙◌, subst, arith}
+use Rattle.std.proofs.Common.{◌≡◌, ◌⊎◌, ℕ, ◌+◌, ◌≤◌, Bool, true, false, cond, List, [], ◌∷◌, inl, inr, refl, sym, ap, ◌∙◌, subst, arith}
 use Rattle.std.specs.Prelude.{Option, Some, nat_lt, ◌==◌}
 use Rattle.std.proofs.lemmas.Bool.{le-ltb}
 use Rattle.pl_base.specs.FileMap.{FileMap}
@@ -19,13 +19,14 @@ use Rattle.tpm_model.specs.declared.response.Response.TheVariants as answer
 use Rattle.tpm_model.specs.declared.response.Refusal.TheVariants as refusal
 use Rattle.tpm_model.specs.declared.response.Counter.TheVariants as counter
 use Rattle.pcrlock_words.specs.declared.answer.Answer.TheVariants as said
-use Rattle.pcrlock_line.specs.Outcome.{Outcome, Fine, Refused}
-use Rattle.pcrlock_line.specs.Machine.{Machine, Tells}
+use Rattle.pcrlock_line.specs.Outcome.{Outcome, Fine, refused_line}
+use Rattle.pcrlock_line.specs.Machine.{Machine, Live, Tells, machine}
+use Rattle.pcrlock_line.specs.Stopped.{StandsAt, StandsAmong, Same}
 use Rattle.tpm_model.specs.Binding.{Binding, Index, Literal}
 use Rattle.tpm_model.specs.Sessions.{object_at}
 use Rattle.tpm_model.specs.World.{World, extended_world}
 use Rattle.tpm_model.specs.Tied.{Tied, IsHeld, IsSoundBinding}
-use Rattle.pcrlock_tpm.specs.Extend.{tpm_extend_world, tpm_extend_line, extended_parts, StopsAround}
+use Rattle.pcrlock_tpm.specs.Extend.{state_after, extend_world, extended_line, extended_parts, extended_machine}
 
 -- the digests are the hashes of the bytes
 abbrev pub AreHashes : Digests → List ℕ → Type 0
@@ -35,57 +36,47 @@ same_values : (s : Parts) (pcr : ℕ) (digests : Digests) (bytes : List ℕ) →
     → after_extend s.banks pcr digests s.pcrs ≡ (extended_parts pcr bytes s).pcrs
 same_values s pcr digests bytes h i = after_digests s.banks pcr (h Sha1 i) (h Sha256 i) (h Sha384 i) (h Sha512 i) s.pcrs
 
--- the outcome at the counter's end, and the one otherwise
-abbrev ends : Machine → Outcome
-ends m = record { ending = Refused (said.CounterEnd false); after = m; hashed = [] }
+-- the next state of the TPM, whether or not the counter is at its end
+next_by : (s : Parts) (pcr : ℕ) (digests : Digests) (bytes : List ℕ) (last : Bool) → AreHashes digests bytes
+    → (cond {A = Response × Parts} last (answer.Refused (refusal.CounterEnd counter.Update), s)
+    (answer.Done, record s { pcrs = after_extend s.banks pcr digests s.pcrs; update_counter = s.update_counter + 1 })).1
+    ≡ cond last s (extended_parts pcr bytes s)
+next_by s pcr digests bytes true h = refl
+next_by s pcr digests bytes false h = ap (λ values. record s { pcrs = values; update_counter = s.update_counter + 1 }) (same_values s pcr digests bytes h)
 
-abbrev goes : ℕ → List ℕ → Machine → Outcome
-goes pcr bytes m = record { ending = Fine []; after = record m { state = extended_parts pcr bytes m.state }; hashed = [] }
+pub next_state : (s : Parts) (pcr : ℕ) (digests : Digests) (bytes : List ℕ) → pcr ≤ 23 → AreHashes digests bytes
+    → (pcr_extend pcr digests s).1 ≡ state_after pcr bytes s
+next_state s pcr digests bytes small h = rw (le-ltb 23 pcr small) (next_by s pcr digests bytes (s.update_counter == 4294967295) h)
 
--- the next state of the TPM is that of the machine afterwards, whether or not the counter is at its end
-next_by : (m : Machine) (pcr : ℕ) (digests : Digests) (bytes : List ℕ) (last : Bool) → AreHashes digests bytes
-    → (cond {A = Response × Parts} last (answer.Refused (refusal.CounterEnd counter.Update), m.state)
-    (answer.Done, record m.state { pcrs = after_extend m.state.banks pcr digests m.state.pcrs; update_counter = m.state.update_counter + 1 })).1
-    ≡ (cond {A = Outcome} last (ends m) (goes pcr bytes m)).after.state
-next_by m pcr digests bytes true h = refl
-next_by m pcr digests bytes false h = ap (λ values. record m.state { pcrs = values; update_counter = m.state.update_counter + 1 }) (same_values m.state pcr digests bytes h)
+-- what is stored after a stop at the extend is the state before, or the one afterwards
+stops_by : (held : Option FileMap) (now : Option Stored) (words : Option (List (List ℕ))) (m : Live) (pcr : ℕ) (bytes : List ℕ) (last : Bool)
+    → held ≡ Some m.files → HasRules m.state → HasRules (cond last m.state (extended_parts pcr bytes m.state))
+    → (now ≡ Some (Holds m.state)) ⊎ (now ≡ Some (Holds (cond last m.state (extended_parts pcr bytes m.state))))
+    → StandsAmong held now (cond {A = Outcome} last (refused_line (said.CounterEnd false) (machine m))
+    (record { ending = Fine []; after = extended_machine pcr bytes m; hashed = []; stops = machine m ∷ extended_machine pcr bytes m ∷ [] })).stops
+stops_by held now words m pcr bytes true files rules next (inl same) = inl (record { files = files; device = Holds m.state; tells = same; rules = rules; same = Same })
+stops_by held now words m pcr bytes true files rules next (inr same) = inl (record { files = files; device = Holds m.state; tells = same; rules = rules; same = Same })
+stops_by held now words m pcr bytes false files rules next (inl same) = inl (record { files = files; device = Holds m.state; tells = same; rules = rules; same = Same })
+stops_by held now words m pcr bytes false files rules next (inr same) =
+    inr (inl (record { files = files; device = Holds (extended_parts pcr bytes m.state); tells = same; rules = next; same = Same }))
 
-pub next_state : (m : Machine) (pcr : ℕ) (digests : Digests) (bytes : List ℕ) → pcr ≤ 23 → AreHashes digests bytes
-    → (pcr_extend pcr digests m.state).1 ≡ (tpm_extend_line pcr bytes m).after.state
-next_state m pcr digests bytes small h = rw (le-ltb 23 pcr small) (next_by m pcr digests bytes (m.state.update_counter == 4294967295) h)
-
--- an extend leaves the files and the random words
-same_files : (m : Machine) (pcr : ℕ) (bytes : List ℕ) (last : Bool) → (cond {A = Outcome} last (ends m) (goes pcr bytes m)).after.files ≡ m.files
-same_files m pcr bytes true = refl
-same_files m pcr bytes false = refl
-
-same_draws : (m : Machine) (pcr : ℕ) (bytes : List ℕ) (last : Bool) → (cond {A = Outcome} last (ends m) (goes pcr bytes m)).after.draws ≡ m.draws
-same_draws m pcr bytes true = refl
-same_draws m pcr bytes false = refl
-
--- after a stop at the extend the objects tell the machine before, or the one afterwards
-pub extend_stops : (held : Option FileMap) (stored now : Option Stored) (words : Option (List (List ℕ))) (m : Machine) (pcr : ℕ) (digests : Digests) (bytes : List ℕ)
-    → pcr ≤ 23 → AreHashes digests bytes → Tells held stored words m
+pub extend_stops : (held : Option FileMap) (stored now : Option Stored) (words : Option (List (List ℕ))) (m : Live) (pcr : ℕ) (digests : Digests) (bytes : List ℕ)
+    → pcr ≤ 23 → AreHashes digests bytes → Tells held stored words (machine m)
     → (now ≡ Some (Holds m.state)) ⊎ (now ≡ Some (Holds (pcr_extend pcr digests m.state).1))
-    → StopsAround held now words m (tpm_extend_line pcr bytes m).after
-extend_stops held stored now words m pcr digests bytes small h tells (inl same) =
-    inl (record { files = tells.files; state = same; draws = tells.draws; rules = tells.rules })
-extend_stops held stored now words m pcr digests bytes small h tells (inr next) =
-    let there : (pcr_extend pcr digests m.state).1 ≡ (tpm_extend_line pcr bytes m).after.state = next_state m pcr digests bytes small h in
-    inr (record {
-      files = tells.files ∙ ap Some (sym (same_files m pcr bytes (m.state.update_counter == 4294967295)));
-      state = next ∙ ap (λ s. Some (Holds s)) there;
-      draws = tells.draws ∙ ap Some (sym (same_draws m pcr bytes (m.state.update_counter == 4294967295)));
-      rules = subst HasRules there (keeps-pcr_extend pcr digests m.state tells.rules);
-    })
+    → StandsAmong held now (extended_line pcr bytes m).stops
+extend_stops held stored now words m pcr digests bytes small h tells stopped =
+    let there : (pcr_extend pcr digests m.state).1 ≡ state_after pcr bytes m.state = next_state m.state pcr digests bytes small h in
+    stops_by held now words m pcr bytes (m.state.update_counter == 4294967295) tells.files tells.rules
+    (subst HasRules there (keeps-pcr_extend pcr digests m.state tells.rules))
+    (subst (λ (s : Parts). (now ≡ Some (Holds m.state)) ⊎ (now ≡ Some (Holds s))) there stopped)
 
 -- an extend leaves the objects
-same_objects : (m : Machine) (pcr : ℕ) (bytes : List ℕ) (last : Bool) → (cond {A = Outcome} last (ends m) (goes pcr bytes m)).after.state.objects ≡ m.state.objects
-same_objects m pcr bytes true = refl
-same_objects m pcr bytes false = refl
+same_objects : (s : Parts) (pcr : ℕ) (bytes : List ℕ) (last : Bool) → (cond last s (extended_parts pcr bytes s)).objects ≡ s.objects
+same_objects s pcr bytes true = refl
+same_objects s pcr bytes false = refl
 
 -- a world that follows a state with the same objects stays tied
-follows : (s t : Parts) (w : World) → t.objects ≡ s.objects → Tied s w → Tied t (extended_world t w)
+pub follows : (s t : Parts) (w : World) → t.objects ≡ s.objects → Tied s w → Tied t (extended_world t w)
 follows s t w same tie = record {
   banks = refl;
   pcrs = refl;
@@ -108,5 +99,19 @@ follows s t w same tie = record {
     still_sound t w (Literal hash bank p value) k = k
 
 -- the world after `tpm-extend` is tied to the state that it leaves
-pub extend_tied : (m : Machine) (w : World) (pcr : ℕ) (bytes : List ℕ) → Tied m.state w → Tied (tpm_extend_line pcr bytes m).after.state (tpm_extend_world pcr bytes m w)
-extend_tied m w pcr bytes tie = follows m.state (tpm_extend_line pcr bytes m).after.state w (same_objects m pcr bytes (m.state.update_counter == 4294967295)) tie
+pub extend_tied : (s : Parts) (w : World) (pcr : ℕ) (bytes : List ℕ) → Tied s w → Tied (state_after pcr bytes s) (extend_world pcr bytes s w)
+extend_tied s w pcr bytes tie = follows s (state_after pcr bytes s) w (same_objects s pcr bytes (s.update_counter == 4294967295)) tie
+
+-- the machine itself stands first
+pub first_stop : (held : Option FileMap) (stored : Option Stored) (m : Machine) (s : Parts) (pcr : ℕ) (bytes : List ℕ) → m.device ≡ Holds s → StandsAt held stored m
+    → StandsAmong held stored (extended_line pcr bytes (record { files = m.files; state = s; draws = m.draws })).stops
+first_stop held stored m s pcr bytes e at =
+    let M : Stored → Machine = λ d. record { files = m.files; device = d; draws = m.draws } in
+    let here : StandsAt held stored (M (Holds s)) = subst (λ d. StandsAt held stored (M d)) e at in
+    by (s.update_counter == 4294967295) here
+  where
+    by : (last : Bool) → StandsAt held stored (machine (record { files = m.files; state = s; draws = m.draws }))
+        → StandsAmong held stored (cond {A = Outcome} last (refused_line (said.CounterEnd false) (machine (record { files = m.files; state = s; draws = m.draws })))
+        (record { ending = Fine []; after = extended_machine pcr bytes (record { files = m.files; state = s; draws = m.draws }); hashed = []; stops = machine (record { files = m.files; state = s; draws = m.draws }) ∷ extended_machine pcr bytes (record { files = m.files; state = s; draws = m.draws }) ∷ [] })).stops
+    by true here = inl here
+    by false here = inl here

@@ -54,6 +54,7 @@ fn extend<T: Tpm>(alloc: Global, tpm: &mut T, pcr: u8, bytes: &[u8]) -> Result<R
 
 /// Extends the PCR, at most 23, in each present bank by that bank's hash of the bytes. The TPM's state
 /// stands at the path.
+#[tactic(auto, using(crate::proofs::Extends::extend_tied))]
 pub fn tpm_extend<T: Tpm>(
     alloc: Global,
     tpm: &mut T,
