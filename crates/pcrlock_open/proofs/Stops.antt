@@ -1,5 +1,5 @@
 -- What is stored after a stop.
-use Rattle.std.proofs.Common.{◌≡◌, ℕ, ◌+◌, Bool, true, false, cond, ◌||◌, nat_le, List, length, refl, ◌∙◌}
+use Rattle.std.proofs.Common.{◌≡◌, ℕ, ◌+◌, Bool, true, false, cond, ◌||◌, nat_le, List, length, inl, refl, sym, subst, ◌∙◌}
 use Rattle.std.specs.Prelude.{Option, Some, Result, Ok, Err, IfErr}
 use Rattle.pl_base.specs.FileMap.{FileMap}
 use Rattle.tpm_model.specs.declared.parts.Parts.{Parts}
@@ -11,8 +11,18 @@ use Rattle.policy_session.specs.Kept.{DiffersInSessions, Kept, Stores}
 use Rattle.policy_session.specs.LiteralUnseal.{after_unseal}
 use Rattle.pcrlock_line.specs.declared.reply.Reply.{Reply}
 use Rattle.pcrlock_line.specs.declared.stop.Stop.{Stop}
-use Rattle.pcrlock_line.specs.Machine.{Machine, Tells}
-use Rattle.pcrlock_open.specs.Stopped.{Stopped}
+use Rattle.pcrlock_line.specs.Machine.{Machine, Live, Tells, machine}
+use Rattle.pcrlock_line.specs.Stopped.{DiffersInSessions as Differs, ButSessions, StandsAt, StandsAmong}
+use Rattle.policy_file.specs.declared.token.Literal.{Literal}
+use Rattle.policy_file.specs.declared.error.FileError.{FileError}
+use Rattle.policy_file.specs.declared.error.FileError.TheVariants as file
+use Rattle.policy_file.specs.declared.token.Token.{Token}
+use Rattle.policy_file.specs.declared.token.Token.TheVariants as token
+use Rattle.policy_file.specs.TokenReading.{token_in}
+use Rattle.pcrlock_line.specs.Content.{Content, Missing, TooLarge, Bytes, content_of}
+use Rattle.pcrlock_line.specs.Outcome.{Outcome}
+use Rattle.pcrlock_line.proofs.Devices.{stops_first}
+use Rattle.pcrlock_open.specs.Unseal.{unsealed_line, token_line, content_line, unseal_line}
 
 same_parts : (s : Parts) → DiffersInSessions s s
 same_parts s = record { banks = refl; pcrs = refl; update_counter = refl; write_counter = refl; next_object = refl; indices = refl; objects = refl }
@@ -37,12 +47,42 @@ pub stops_so : (s : Parts) (result : Result Reply Stop) (now : Option Stored) �
 stops_so s (Ok reply) now h = tt
 stops_so s (Err stop) now h = h
 
+-- the state differs at most in sessions
+differs : {before now : Parts} → DiffersInSessions before now → Differs before now
+differs d = record { banks = d.banks; pcrs = d.pcrs; update_counter = d.update_counter; write_counter = d.write_counter; next_object = d.next_object; indices = d.indices; objects = d.objects }
+
 -- beside files that are as before
-pub stopped : (held kept : Option FileMap) (stored now : Option Stored) (words : Option (List (List ℕ))) (m : Machine) (result : Result Reply Stop)
-    → Tells held stored words m → kept ≡ held → IfErr result (λ _. Kept m.state now) → IfErr result (λ _. Stopped kept now words m)
-stopped held kept stored now words m (Ok reply) tells same h = tt
-stopped held kept stored now words m (Err stop) tells same h = record {
-  state = h.state;
-  kept = h.kept;
-  tells = record { files = same ∙ tells.files; state = h.holds; draws = tells.draws; rules = h.kept.rules };
-}
+pub stopped : (held : Option FileMap) (stored now : Option Stored) (words : Option (List (List ℕ))) (m : Live) (literal : Literal) (handle : ℕ) (result : Result Reply Stop)
+    → Tells held stored words (machine m) → IfErr result (λ _. Kept m.state now) → IfErr result (λ _. StandsAmong held now (unsealed_line literal handle m).stops)
+stopped held stored now words m literal handle (Ok reply) tells h = tt
+stopped held stored now words m literal handle (Err stop) tells h =
+    inl (record { files = tells.files; device = Holds h.state; tells = h.holds; rules = h.kept.rules; same = ButSessions (differs h.kept.differs) })
+
+-- the stops of another definition of the same, over files that are as before
+pub stops_same : (held kept : Option FileMap) (now : Option Stored) (result : Result Reply Stop) (a b : Outcome) → a ≡ b → kept ≡ held
+    → IfErr result (λ _. StandsAmong held now b.stops) → IfErr result (λ _. StandsAmong kept now a.stops)
+stops_same held kept now result a b is same h =
+    subst (λ (f : Option FileMap). IfErr result (λ _. StandsAmong f now a.stops)) (sym same)
+    (subst (λ (o : Outcome). IfErr result (λ _. StandsAmong held now o.stops)) (sym is) h)
+
+-- the machine itself stands first
+pub first_stop : (held : Option FileMap) (stored : Option Stored) (m : Machine) (s : Parts) (literal : Literal) (handle : ℕ) → m.device ≡ Holds s → StandsAt held stored m
+    → StandsAmong held stored (unsealed_line literal handle (record { files = m.files; state = s; draws = m.draws })).stops
+first_stop held stored m s literal handle e at =
+    let M : Stored → Machine = λ d. record { files = m.files; device = d; draws = m.draws } in
+    inl (subst (λ d. StandsAt held stored (M d)) e at)
+
+-- a stop before the device is asked
+unseal_at : (held : Option FileMap) (stored : Option Stored) (m : Machine) (state path : List ℕ) (content : Content) → StandsAt held stored m → StandsAmong held stored (content_line state path content m).stops
+unseal_at held stored m state path Missing at = inl at
+unseal_at held stored m state path (TooLarge size) at = inl at
+unseal_at held stored m state path (Bytes bytes) at = by (token_in bytes)
+  where
+    by : (read : Result Token FileError) → StandsAmong held stored (token_line state path read m).stops
+    by (Ok (token.Literal handle literal)) = stops_first held stored state m (unsealed_line literal handle) at (λ s e. first_stop held stored m s literal handle e at)
+    by (Ok (token.Bound handle)) = inl at
+    by (Err (file.Malformed place kind)) = inl at
+    by (Err file.Memory) = inl at
+
+pub unseal_first : (held : Option FileMap) (stored : Option Stored) (m : Machine) (state path : List ℕ) → StandsAt held stored m → StandsAmong held stored (unseal_line state path m).stops
+unseal_first held stored m state path at = unseal_at held stored m state path (content_of m.files path 256) at

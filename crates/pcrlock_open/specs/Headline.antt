@@ -9,16 +9,16 @@ use Rattle.tpm_model.specs.Binding as binding
 use Rattle.tpm_model.specs.World.{World}
 use Rattle.tpm_model.specs.Tied.{Tied}
 use Rattle.pcrlock_words.specs.Texts.{key_text}
-use Rattle.pcrlock_line.specs.Machine.{Machine}
+use Rattle.pcrlock_line.specs.Machine.{Live, machine}
 use Rattle.pcrlock_line.specs.Content.{content_of, Bytes}
 use Rattle.pcrlock_line.specs.Outcome.{Ending, Fine}
 use Rattle.pcrlock_open.specs.Unseal.{unseal_line, present_value}
 
 -- the token at the path is that of an object of the world with this literal and these bytes; the
 -- world is tied to the state; no strings clash; and a session can be started
-pub record IsEnrolled (m : Machine) (w : World) (path : List ℕ) (handle : ℕ) (literal : Literal) (key : List ℕ) : Type 0 where
+pub record IsEnrolled (m : Live) (w : World) (state path : List ℕ) (handle : ℕ) (literal : Literal) (key : List ℕ) : Type 0 where
   pub tied : Tied m.state w
-  pub safe : NoClash (Contains (w.hashed ++ (unseal_line path m).hashed))
+  pub safe : NoClash (Contains (w.hashed ++ (unseal_line state path (machine m)).hashed))
   pub written : content_of m.files path 256 ≡ Bytes (token_text (token.Literal handle literal))
   pub valid : IsToken (token.Literal handle literal)
   pub object : get w.objects handle ≡ Some (record { secret = key; binding = binding.Literal literal.hash literal.bank literal.pcr literal.value })
@@ -26,5 +26,5 @@ pub record IsEnrolled (m : Machine) (w : World) (path : List ℕ) (handle : ℕ)
   pub number : m.state.next_session < 0x01000000
 
 -- the end is the key's line exactly where the PCR holds the literal's value
-abbrev pub OpensExactly : Ending → List ℕ → Literal → Machine → Type 0
+abbrev pub OpensExactly : Ending → List ℕ → Literal → Live → Type 0
 OpensExactly ending key literal m = (ending ≡ Fine (key_text key)) ↔ (present_value literal m.state ≡ Some literal.value)

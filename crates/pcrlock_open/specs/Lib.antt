@@ -1,5 +1,4 @@
 pub mod Endings
 pub mod Headline
-pub mod Stopped
 pub mod TokenRead
 pub mod Unseal

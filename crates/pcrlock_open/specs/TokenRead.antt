@@ -1,15 +1,16 @@
 -- What the token's file gave.
+use Rattle.std.specs.Prelude.{ℕ, List}
 use Rattle.policy_file.specs.TokenText.{IsLiteral, IsObject}
 use Rattle.pcrlock_line.specs.Machine.{Machine}
-use Rattle.pcrlock_line.specs.Outcome.{Outcome}
+use Rattle.pcrlock_line.specs.Outcome.{Outcome, refused_line}
 use Rattle.pcrlock_open.specs.declared.token.TokenRead.{TokenRead}
 use Rattle.pcrlock_open.specs.declared.token.TokenRead.TheVariants as read
-use Rattle.pcrlock_open.specs.Unseal.{refused_line, unsealed_line}
+use Rattle.pcrlock_open.specs.Unseal.{literal_line}
 
 -- the command's outcome after it
-abbrev pub read_line : TokenRead → Machine → Outcome
-read_line (read.Refused answer) m = refused_line answer m
-read_line (read.Literal object literal) m = unsealed_line literal object m
+abbrev pub read_line : List ℕ → TokenRead → Machine → Outcome
+read_line state (read.Refused answer) m = refused_line answer m
+read_line state (read.Literal object literal) m = literal_line state literal object m
 
 -- a literal that was read has a text, and so has the object's handle
 abbrev pub IsRead : TokenRead → Type 0

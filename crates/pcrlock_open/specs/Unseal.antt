@@ -1,6 +1,6 @@
 -- What `unseal` does, told by the values of PCRs. No session's digest stands here but where the
 -- command prints it.
-use Rattle.std.specs.Prelude.{ℕ, nat_le, if◌then◌else◌, List, [], ◌++◌, length, codes, Option, None, Some, Result, Ok, Err}
+use Rattle.std.specs.Prelude.{ℕ, nat_le, if◌then◌else◌, List, [], ◌∷◌, ◌++◌, length, codes, Option, None, Some, Result, Ok, Err}
 use Rattle.std.specs.Str.{bytes_eq}
 use Rattle.hash_bank.specs.HashedString.{HashedString}
 use Rattle.policy_digest.specs.BindingStrings.{literal_strings}
@@ -21,8 +21,9 @@ use Rattle.pcrlock_words.specs.declared.answer.Answer.TheVariants as said
 use Rattle.pcrlock_words.specs.declared.place.Place.TheVariants as place
 use Rattle.pcrlock_words.specs.Texts.{key_text}
 use Rattle.pcrlock_line.specs.Content.{Content, Missing, TooLarge, Bytes, content_of}
-use Rattle.pcrlock_line.specs.Machine.{Machine}
-use Rattle.pcrlock_line.specs.Outcome.{Ending, Fine, Refused, Outcome}
+use Rattle.pcrlock_line.specs.Machine.{Machine, Live, machine}
+use Rattle.pcrlock_line.specs.Outcome.{Ending, Fine, Refused, Outcome, refused_line}
+use Rattle.pcrlock_line.specs.Begun.{by_device}
 
 -- the key, where the object that was found is bound to this policy (TPM 2.0 Library Part 3,
 -- TPM2_Unseal)
@@ -59,32 +60,33 @@ value_strings (Some now) literal =
     literal_strings literal.hash literal.bank literal.pcr now
     ++ literal_strings literal.hash literal.bank literal.pcr literal.value
 
--- what an unseal by a literal comes to
-abbrev pub unsealed_line : Literal → ℕ → Machine → Outcome
+-- what an unseal by a literal comes to on a state: but for sessions it changes nothing
+abbrev pub unsealed_line : Literal → ℕ → Live → Outcome
 unsealed_line literal handle m = record {
   ending = literal_ending literal handle m.state;
-  after = record m { state = after_unseal m.state };
+  after = machine (record m { state = after_unseal m.state });
   hashed = value_strings (present_value literal m.state) literal;
+  stops = machine m ∷ [];
 }
 
--- a refusal before the TPM is asked
-abbrev pub refused_line : Answer → Machine → Outcome
-refused_line answer m = record { ending = Refused answer; after = m; hashed = [] }
+-- by what the device stores in the state file at the path
+abbrev pub literal_line : List ℕ → Literal → ℕ → Machine → Outcome
+literal_line state literal handle m = by_device m.device state m (unsealed_line literal handle)
 
 -- by what reading the token gave. No token that is read is a bound one, whose kind is at byte 12,
 -- and no reading ends for want of memory
-abbrev pub token_line : List ℕ → Result Token FileError → Machine → Outcome
-token_line path (Ok (token.Literal handle literal)) m = unsealed_line literal handle m
-token_line path (Ok (token.Bound handle)) m = refused_line (said.Malformed path (place.At 12)) m
-token_line path (Err (file.Malformed at kind)) m = refused_line (said.Malformed path (place.At at)) m
-token_line path (Err file.Memory) m = refused_line said.Memory m
+abbrev pub token_line : List ℕ → List ℕ → Result Token FileError → Machine → Outcome
+token_line state path (Ok (token.Literal handle literal)) m = literal_line state literal handle m
+token_line state path (Ok (token.Bound handle)) m = refused_line (said.Malformed path (place.At 12)) m
+token_line state path (Err (file.Malformed at kind)) m = refused_line (said.Malformed path (place.At at)) m
+token_line state path (Err file.Memory) m = refused_line said.Memory m
 
 -- by what stands at the token's path
-abbrev pub content_line : List ℕ → Content → Machine → Outcome
-content_line path Missing m = refused_line (said.NoToken path) m
-content_line path (TooLarge size) m = refused_line (said.Limit (codes "token-bytes") size) m
-content_line path (Bytes bytes) m = token_line path (token_in bytes) m
+abbrev pub content_line : List ℕ → List ℕ → Content → Machine → Outcome
+content_line state path Missing m = refused_line (said.NoToken path) m
+content_line state path (TooLarge size) m = refused_line (said.Limit (codes "token-bytes") size) m
+content_line state path (Bytes bytes) m = token_line state path (token_in bytes) m
 
 -- the key of the token at the path, or the first refusal whose cause holds
-abbrev pub unseal_line : List ℕ → Machine → Outcome
-unseal_line path m = content_line path (content_of m.files path 256) m
+abbrev pub unseal_line : List ℕ → List ℕ → Machine → Outcome
+unseal_line state path m = content_line state path (content_of m.files path 256) m

@@ -8,15 +8,16 @@ ghost use Rattle.tpm_device.specs.Stored.{Holds};
 ghost use Rattle.tpm_model.specs.declared.parts.Parts.{Parts};
 ghost use Rattle.tpm_model.specs.Rules.{HasRules};
 ghost use Rattle.pcrlock_line.specs.Causes.{HasCauses};
-ghost use Rattle.pcrlock_line.specs.Machine.{Machine, Tells};
+ghost use Rattle.pcrlock_line.specs.Machine.{Machine, Live, Tells, machine};
+ghost use Rattle.pcrlock_line.specs.Stopped.{StandsAmong};
+ghost use Rattle.pl_base.specs.FileMap.{FileMap};
 ghost use Rattle.pcrlock_line.specs.Outcome.{Gives};
 ghost use Rattle.pcrlock_open.specs.Endings.{IsOpened};
-ghost use Rattle.pcrlock_open.specs.Stopped.{Stopped};
 ghost use Rattle.tpm_model.specs.World.{World};
 ghost use Rattle.policy_file.specs.declared.token.Literal.{Literal as LiteralValue};
 ghost use Rattle.pcrlock_line.specs.Outcome.{ending_of};
 ghost use Rattle.pcrlock_open.specs.Headline.{IsEnrolled, OpensExactly};
-ghost use Rattle.pcrlock_open.specs.Unseal.{unseal_line};
+ghost use Rattle.pcrlock_open.specs.Unseal.{literal_line, unseal_line};
 
 use crate::answers::reply_to;
 use crate::token::{TokenRead, token_at};
@@ -46,19 +47,26 @@ fn open_on<T: Tpm>(
     reply_to(alloc, literal, &opened)
 }
 
-/// Makes the device ready and opens the object.
-#[tactic(auto, using(crate::proofs::Stops::kept_same))]
-fn open<T: Tpm>(alloc: Global, tpm: &mut T, literal: &Literal, object: u32) -> Result<Reply, Stop>
+/// Makes the device ready, whose state stands at the path, and opens the object.
+fn open<T: Tpm>(
+    alloc: Global,
+    tpm: &mut T,
+    state: &Name,
+    literal: &Literal,
+    object: u32,
+) -> Result<Reply, Stop>
     requires literal { IsLiteral literal.now }
     requires object { IsObject object }
     ensures causes { HasCauses (0, 0, T.faults tpm.old, 0) (0, 0, T.faults tpm.new, 0) result }
-    ensures told { (s : Parts) → T.stored tpm.old ≡ Some (Holds s) → HasRules s
-        → IfOk result (λ reply. IsOpened literal.now object s reply (T.stored tpm.new)) }
-    ensures stops { (s : Parts) → T.stored tpm.old ≡ Some (Holds s) → HasRules s → IfErr result (λ _. Kept s (T.stored tpm.new)) }
+    ensures told { (held : Option FileMap) (words : Option (Sequence (Sequence ℕ))) (m : Machine) → Tells held (T.stored tpm.old) words m
+        → NoClash (Contains (literal_line state.now literal.now object m).hashed)
+        → IfOk result (λ reply. Gives held (T.stored tpm.new) words reply (literal_line state.now literal.now object m)) }
+    ensures stops { (held : Option FileMap) (words : Option (Sequence (Sequence ℕ))) (m : Machine) → Tells held (T.stored tpm.old) words m
+        → IfErr result (λ _. StandsAmong held (T.stored tpm.new) (literal_line state.now literal.now object m).stops) }
 {
-    match ready(alloc, tpm) {
-        Ok(Ok(())) => open_on(alloc, tpm, literal, object),
-        Ok(Err(_)) => Err(Stop::Memory),
+    match ready(alloc, tpm, state) {
+        Ok(None) => open_on(alloc, tpm, literal, object),
+        Ok(Some(answer)) => Ok(Reply::Refused(answer)),
         Err(stop) => Err(stop),
     }
 }
@@ -68,24 +76,25 @@ fn opened<F: Files, T: Tpm>(
     alloc: Global,
     files: &mut F,
     tpm: &mut T,
+    state: &Name,
     path: &Name,
 ) -> Result<Reply, Stop>
     ensures causes { HasCauses (F.faults files.old, 0, T.faults tpm.old, 0) (F.faults files.new, 0, T.faults tpm.new, 0) result }
     ensures told { (words : Option (Sequence (Sequence ℕ))) (m : Machine) → Tells (F.held files.old) (T.stored tpm.old) words m
-        → NoClash (Contains (unseal_line path.now m).hashed)
-        → IfOk result (λ reply. Gives (F.held files.new) (T.stored tpm.new) words reply (unseal_line path.now m)) }
+        → NoClash (Contains (unseal_line state.now path.now m).hashed)
+        → IfOk result (λ reply. Gives (F.held files.new) (T.stored tpm.new) words reply (unseal_line state.now path.now m)) }
     ensures stops { (words : Option (Sequence (Sequence ℕ))) (m : Machine) → Tells (F.held files.old) (T.stored tpm.old) words m
-        → IfErr result (λ _. Stopped (F.held files.new) (T.stored tpm.new) words m) }
+        → IfErr result (λ _. StandsAmong (F.held files.new) (T.stored tpm.new) (unseal_line state.now path.now m).stops) }
 {
     match token_at(alloc, files, path) {
-        Ok(TokenRead::Literal { object, literal }) => open(alloc, tpm, &literal, object),
+        Ok(TokenRead::Literal { object, literal }) => open(alloc, tpm, state, &literal, object),
         Ok(TokenRead::Refused(answer)) => Ok(Reply::Refused(answer)),
         Err(stop) => Err(stop),
     }
 }
 
 /// Prints the key of the token at the path, where the PCR that the token names has the token's
-/// value.
+/// value. The TPM's state stands at the path `state`.
 ///
 /// The answers for which it doesn't, the first whose cause holds:
 ///
@@ -94,6 +103,8 @@ fn opened<F: Files, T: Tpm>(
 /// | `NoToken` | no file stands at the path |
 /// | `Limit`, `token-bytes` | the file has this many bytes, more than 256 |
 /// | `Malformed` | the file spells no token by a literal; a bound token is not read yet |
+/// | `Limit`, `state-bytes` | the TPM's state file has this many bytes, more than a state may have |
+/// | `Malformed` | the TPM's state file spells no state, or one that breaks a rule |
 /// | `SessionsFull` | 64 sessions are open (TPM 2.0 Library Part 3, TPM2_StartAuthSession) |
 /// | `Limit`, `handles` | all numbers of sessions, 0x01000000, were used |
 /// | `BankAbsent` | the TPM lacks the bank (TPM2_PolicyPCR) |
@@ -109,19 +120,20 @@ pub fn unseal<F: Files, T: Tpm>(
     alloc: Global,
     files: &mut F,
     tpm: &mut T,
+    state: &Name,
     path: &Name,
 ) -> Result<Reply, Stop>
     ensures causes { HasCauses (F.faults files.old, 0, T.faults tpm.old, 0) (F.faults files.new, 0, T.faults tpm.new, 0) result }
     ensures told { (words : Option (Sequence (Sequence ℕ))) (m : Machine) → Tells (F.held files.old) (T.stored tpm.old) words m
-        → NoClash (Contains (unseal_line path.now m).hashed)
-        → IfOk result (λ reply. Gives (F.held files.new) (T.stored tpm.new) words reply (unseal_line path.now m)) }
+        → NoClash (Contains (unseal_line state.now path.now m).hashed)
+        → IfOk result (λ reply. Gives (F.held files.new) (T.stored tpm.new) words reply (unseal_line state.now path.now m)) }
     ensures stops { (words : Option (Sequence (Sequence ℕ))) (m : Machine) → Tells (F.held files.old) (T.stored tpm.old) words m
-        → IfErr result (λ _. Stopped (F.held files.new) (T.stored tpm.new) words m) }
+        → IfErr result (λ _. StandsAmong (F.held files.new) (T.stored tpm.new) (unseal_line state.now path.now m).stops) }
     // The key of an object of the world comes out exactly where its PCR holds the value that it was
     // sealed to.
-    ensures headline { (words : Option (Sequence (Sequence ℕ))) (m : Machine) (w : World) (handle : ℕ) (literal : LiteralValue) (key : Sequence ℕ)
-        → Tells (F.held files.old) (T.stored tpm.old) words m → IsEnrolled m w path.now handle literal key
+    ensures headline { (words : Option (Sequence (Sequence ℕ))) (m : Live) (w : World) (handle : ℕ) (literal : LiteralValue) (key : Sequence ℕ)
+        → Tells (F.held files.old) (T.stored tpm.old) words (machine m) → IsEnrolled m w state.now path.now handle literal key
         → IfOk result (λ reply. OpensExactly (ending_of reply) key literal m) }
 {
-    opened(alloc, files, tpm, path)
+    opened(alloc, files, tpm, state, path)
 }

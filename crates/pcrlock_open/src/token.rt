@@ -4,7 +4,8 @@ ghost use Rattle.pcrlock_line.specs.Causes.{HasCauses};
 ghost use Rattle.pcrlock_line.specs.Content.{content_found};
 ghost use Rattle.pcrlock_line.specs.Machine.{Machine};
 ghost use Rattle.pcrlock_open.specs.TokenRead.{read_line, IsRead};
-ghost use Rattle.pcrlock_open.specs.Unseal.{content_line, token_line, refused_line, unseal_line};
+ghost use Rattle.pcrlock_open.specs.Unseal.{content_line, token_line, unseal_line};
+ghost use Rattle.std.specs.Prelude.{ℕ, List as Sequence};
 ghost use Rattle.policy_file.specs.TokenReading.{token_in};
 
 use crate::answers::limit;
@@ -58,7 +59,7 @@ fn missing(alloc: Global, path: &Name) -> Result<TokenRead, Stop>
 
 /// The token that the bytes spell.
 fn token_of(alloc: Global, path: &Name, bytes: &[u8]) -> Result<TokenRead, Stop>
-    ensures told { IfOk result (λ read. (m : Machine) → token_line path.now (token_in bytes.now) m ≡ read_line read m) }
+    ensures told { IfOk result (λ read. (state : Sequence ℕ) (m : Machine) → token_line state path.now (token_in bytes.now) m ≡ read_line state read m) }
     ensures valid { IfOk result IsRead }
     ensures cause { IfErr result (λ stop. stop ≡ Stop.Memory) }
 {
@@ -72,7 +73,7 @@ fn token_of(alloc: Global, path: &Name, bytes: &[u8]) -> Result<TokenRead, Stop>
 
 /// The token of what stands at the path.
 fn token_found(alloc: Global, path: &Name, found: &Found) -> Result<TokenRead, Stop>
-    ensures told { IfOk result (λ read. (m : Machine) → content_line path.now (content_found found.now) m ≡ read_line read m) }
+    ensures told { IfOk result (λ read. (state : Sequence ℕ) (m : Machine) → content_line state path.now (content_found found.now) m ≡ read_line state read m) }
     ensures valid { IfOk result IsRead }
     ensures cause { IfErr result (λ stop. stop ≡ Stop.Memory) }
 {
@@ -93,7 +94,7 @@ pub(crate) fn token_at<F: Files>(
     path: &Name,
 ) -> Result<TokenRead, Stop>
     ensures causes { HasCauses (F.faults files.old, 0, 0, 0) (F.faults files.new, 0, 0, 0) result }
-    ensures told { (m : Machine) → F.held files.old ≡ Some m.files → IfOk result (λ read. unseal_line path.now m ≡ read_line read m) }
+    ensures told { (state : Sequence ℕ) (m : Machine) → F.held files.old ≡ Some m.files → IfOk result (λ read. unseal_line state path.now m ≡ read_line state read m) }
     ensures valid { IfOk result IsRead }
     ensures same { F.held files.new ≡ F.held files.old }
 {

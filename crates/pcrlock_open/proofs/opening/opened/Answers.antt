@@ -2,8 +2,9 @@ use Rattle.std.proofs.Common.{ap, ◌∙◌, refl}
 use Rattle.std.specs.Prelude.{Err}
 use Rattle.pcrlock_line.proofs.Composed.{then, stops, on_files, on_tpm}
 use Rattle.pcrlock_open.specs.TokenRead.{read_line}
-use Rattle.pcrlock_open.proofs.Gives.{gives_opened}
-use Rattle.pcrlock_open.proofs.Stops.{kept_same, stopped}
+use Rattle.pcrlock_line.proofs.Devices.{stands}
+use Rattle.pcrlock_open.proofs.Gives.{gives_same, refused_same}
+use Rattle.pcrlock_open.proofs.Stops.{stops_same, unseal_first}
 use Rattle.pcrlock_open.proofs.opening.opened.Goals as goal
 
 pub returns-in-Ok-Literal-clause-causes : goal.returns-in-Ok-Literal-clause-causes
@@ -16,11 +17,15 @@ returns-in-Ok-Literal-clause-causes g c = then
     (on_tpm (g.F.Files.faults c.token_at.new.files) 0 0 (g.T.Tpm.faults c.args.tpm.now) (g.T.Tpm.faults c.open.new.tpm) c.open.result c.open.ensures.causes)
 
 pub returns-in-Ok-Literal-clause-told : goal.returns-in-Ok-Literal-clause-told
-returns-in-Ok-Literal-clause-told g c = λ words m tells safe.
-    gives_opened (g.F.Files.held c.args.files.now) (g.F.Files.held c.token_at.new.files) (g.T.Tpm.stored c.args.tpm.now) (g.T.Tpm.stored c.open.new.tpm) words m
-    c.args.path.now c.in-Ok-Literal.object c.in-Ok-Literal.literal c.open.result
-    (c.in-Ok-Literal.ensures.told m tells.files ∙ ap (λ read. read_line read m) c.in-Ok-Literal.field-0-is)
-    tells c.token_at.ensures.same safe (c.open.ensures.told m.state tells.state tells.rules)
+returns-in-Ok-Literal-clause-told g c = λ words m tells.
+    gives_same (g.F.Files.held c.args.files.now) (g.F.Files.held c.token_at.new.files) (g.T.Tpm.stored c.open.new.tpm) words c.open.result _ _
+    (c.in-Ok-Literal.ensures.told c.args.state.now m tells.files ∙ ap (λ read. read_line c.args.state.now read m) c.in-Ok-Literal.field-0-is)
+    c.token_at.ensures.same (c.open.ensures.told (g.F.Files.held c.args.files.now) words m tells)
+
+pub returns-in-Ok-Refused-clause-told : goal.returns-in-Ok-Refused-clause-told
+returns-in-Ok-Refused-clause-told g c = λ words m tells safe.
+    refused_same (g.F.Files.held c.args.files.now) (g.F.Files.held c.token_at.new.files) (g.T.Tpm.stored c.args.tpm.now) words m c.in-Ok-Refused.answer _
+    (c.in-Ok-Refused.ensures.told c.args.state.now m tells.files ∙ ap (λ read. read_line c.args.state.now read m) c.in-Ok-Refused.field-0-is) c.token_at.ensures.same tells
 
 pub returns-in-Err-clause-causes : goal.returns-in-Err-clause-causes
 returns-in-Err-clause-causes g c = stops
@@ -32,10 +37,11 @@ returns-in-Err-clause-causes g c = stops
 
 pub returns-in-Ok-Literal-clause-stops : goal.returns-in-Ok-Literal-clause-stops
 returns-in-Ok-Literal-clause-stops g c = λ words m tells.
-    stopped (g.F.Files.held c.args.files.now) (g.F.Files.held c.token_at.new.files) (g.T.Tpm.stored c.args.tpm.now) (g.T.Tpm.stored c.open.new.tpm) words m c.open.result
-    tells c.token_at.ensures.same (c.open.ensures.stops m.state tells.state tells.rules)
+    stops_same (g.F.Files.held c.args.files.now) (g.F.Files.held c.token_at.new.files) (g.T.Tpm.stored c.open.new.tpm) c.open.result _ _
+    (c.in-Ok-Literal.ensures.told c.args.state.now m tells.files ∙ ap (λ read. read_line c.args.state.now read m) c.in-Ok-Literal.field-0-is)
+    c.token_at.ensures.same (c.open.ensures.stops (g.F.Files.held c.args.files.now) words m tells)
 
 pub returns-in-Err-clause-stops : goal.returns-in-Err-clause-stops
 returns-in-Err-clause-stops g c = λ words m tells.
-    stopped (g.F.Files.held c.args.files.now) (g.F.Files.held c.token_at.new.files) (g.T.Tpm.stored c.args.tpm.now) (g.T.Tpm.stored c.args.tpm.now) words m (Err c.in-Err.stop)
-    tells c.token_at.ensures.same (kept_same m.state _ _ refl tells.state tells.rules)
+    unseal_first (g.F.Files.held c.token_at.new.files) (g.T.Tpm.stored c.args.tpm.now) m c.args.state.now c.args.path.now
+    (stands _ _ words m (record { files = c.token_at.ensures.same ∙ tells.files; state = tells.state; draws = tells.draws; rules = tells.rules }))
