@@ -17,9 +17,10 @@ use Rattle.tpm_model.specs.Pcrs.{pcr_of}
 use Rattle.tpm_model.specs.Rules.{HasRules}
 use Rattle.tpm_model.specs.World.{World}
 use Rattle.tpm_model.specs.Tied.{Tied}
-use Rattle.pcrlock_line.specs.Machine.{Machine}
-use Rattle.pcrlock_seal.specs.Enroll.{sealed_handle, token_written, key_sealed, with_key, with_value, literal_now, literal_hash, enroll_line}
-use Rattle.pcrlock_seal.specs.EnrollWorld.{strings_of, sealed_or, key_world, with_key_world, value_world, enroll_world}
+use Rattle.tpm_device.specs.Stored.{Holds}
+use Rattle.pcrlock_line.specs.Machine.{Live}
+use Rattle.pcrlock_seal.specs.Enroll.{sealed_handle, token_written, key_sealed, with_key, with_value, literal_now, literal_hash, enrolled_line}
+use Rattle.pcrlock_seal.specs.EnrollWorld.{strings_of, sealed_or, key_world, with_key_world, value_world, enroll_world, key_state, value_state, enroll_state}
 use Rattle.pcrlock_seal.proofs.Objects.{none_found, tied_hashed, tied_object, tied_sealed}
 
 -- whatever the TPM answered, the state and the world go together
@@ -47,22 +48,16 @@ goes key literal s w hash rules t =
     cond_both (nat_le 0x00800000 s.next_object) _ _ (Goes key literal w) (λ _. same) (λ _.
     accepted key literal s w (nat_le 0x81000000 (object_handle s.next_object) && nat_le (object_handle s.next_object) 0x817FFFFF) hash rules t))))
 
--- the state that a sealed key leaves is that of the TPM's answer
-left : (path : List ℕ) (literal : Literal) (o : Option ℕ) (response : Response) (s : Parts) (m : Machine) → (token_written path literal o response s m).after.state ≡ s
-left path literal (Some handle) response s m = refl
-left path literal None response s m = refl
+-- the world after a sealed key
+key_tied : (key : List ℕ) (literal : Literal) (m : Live) (w : World) → IsPolicyHash literal.hash → HasRules m.state → Tied m.state w
+    → Tied (seal (literal_policy literal.hash literal.bank literal.pcr literal.value) key m.state).1 (key_world literal key m w)
+key_tied key literal m w hash rules t = goes key literal m.state w hash rules t
 
-key_tied : (path : List ℕ) (literal : Literal) (key : List ℕ) (m : Machine) (w : World) → IsPolicyHash literal.hash → HasRules m.state → Tied m.state w
-    → Tied (key_sealed path literal key m).after.state (key_world literal key m w)
-key_tied path literal key m w hash rules t =
-    let r = seal (literal_policy literal.hash literal.bank literal.pcr literal.value) key m.state in
-    subst (λ s. Tied s (key_world literal key m w)) (sym (left path literal (sealed_handle r.0) r.0 r.1 m)) (goes key literal m.state w hash rules t)
-
-drawn_tied : (path : List ℕ) (literal : Literal) (key : Option (List ℕ)) (draws : List (List ℕ)) (m : Machine) (w : World) → IsPolicyHash literal.hash → HasRules m.state → Tied m.state w
-    → Tied (with_key path literal key draws m).after.state (with_key_world literal key draws m w)
-drawn_tied path literal (Some key) draws m w hash rules t = key_tied path literal key m w hash rules t
-drawn_tied path literal None (word ∷ rest) m w hash rules t = key_tied path literal word (record m { draws = rest }) w hash rules t
-drawn_tied path literal None [] m w hash rules t = tied_hashed m.state w (strings_of literal) t
+drawn_tied : (literal : Literal) (key : Option (List ℕ)) (draws : List (List ℕ)) (m : Live) (w : World) → IsPolicyHash literal.hash → HasRules m.state → Tied m.state w
+    → Tied (key_state literal key draws m.state) (with_key_world literal key draws m w)
+drawn_tied literal (Some key) draws m w hash rules t = key_tied key literal m w hash rules t
+drawn_tied literal None (word ∷ rest) m w hash rules t = key_tied word literal m w hash rules t
+drawn_tied literal None [] m w hash rules t = tied_hashed m.state w (strings_of literal) t
 
 policy_bank : (bank : Bank) → IsPolicyHash (literal_hash bank)
 policy_bank Sha1 = inl refl
@@ -70,12 +65,29 @@ policy_bank Sha256 = inl refl
 policy_bank Sha384 = inr refl
 policy_bank Sha512 = inr refl
 
-value_tied : (path : List ℕ) (pcr : ℕ) (bank : Bank) (key value : Option (List ℕ)) (m : Machine) (w : World) → HasRules m.state → Tied m.state w
-    → Tied (with_value path pcr bank key value m).after.state (value_world pcr bank key value m w)
-value_tied path pcr bank key None m w rules t = t
-value_tied path pcr bank key (Some value) m w rules t = drawn_tied path (literal_now bank pcr value) key m.draws m w (policy_bank bank) rules t
+value_tied : (pcr : ℕ) (bank : Bank) (key value : Option (List ℕ)) (m : Live) (w : World) → HasRules m.state → Tied m.state w
+    → Tied (value_state pcr bank key value m) (value_world pcr bank key value m w)
+value_tied pcr bank key None m w rules t = t
+value_tied pcr bank key (Some value) m w rules t = drawn_tied (literal_now bank pcr value) key m.draws m w (policy_bank bank) rules t
 
 -- the world after `enroll` is tied to the state that it leaves
-pub enroll_tied : (path : List ℕ) (pcr : ℕ) (bank : Bank) (key : Option (List ℕ)) (m : Machine) (w : World) → HasRules m.state → Tied m.state w
-    → Tied (enroll_line path pcr bank key m).after.state (enroll_world pcr bank key m w)
-enroll_tied path pcr bank key m w rules t = value_tied path pcr bank key (pcr_of m.state.banks m.state.pcrs bank pcr) m w rules t
+pub enroll_tied : (pcr : ℕ) (bank : Bank) (key : Option (List ℕ)) (m : Live) (w : World) → HasRules m.state → Tied m.state w
+    → Tied (enroll_state pcr bank key m) (enroll_world pcr bank key m w)
+enroll_tied pcr bank key m w rules t = value_tied pcr bank key (pcr_of m.state.banks m.state.pcrs bank pcr) m w rules t
+
+-- that state is stored afterwards
+written_leaves : (path : List ℕ) (literal : Literal) (o : Option ℕ) (response : Response) (s : Parts) (m : Live) → (token_written path literal o response s m).after.device ≡ Holds s
+written_leaves path literal (Some handle) response s m = refl
+written_leaves path literal None response s m = refl
+
+key_leaves : (path : List ℕ) (literal : Literal) (key : Option (List ℕ)) (draws : List (List ℕ)) (m : Live) → (with_key path literal key draws m).after.device ≡ Holds (key_state literal key draws m.state)
+key_leaves path literal (Some key) draws m = written_leaves path literal _ _ _ m
+key_leaves path literal None (word ∷ rest) m = written_leaves path literal _ _ _ (record m { draws = rest })
+key_leaves path literal None [] m = refl
+
+value_leaves : (path : List ℕ) (pcr : ℕ) (bank : Bank) (key value : Option (List ℕ)) (m : Live) → (with_value path pcr bank key value m).after.device ≡ Holds (value_state pcr bank key value m)
+value_leaves path pcr bank key None m = refl
+value_leaves path pcr bank key (Some value) m = key_leaves path (literal_now bank pcr value) key m.draws m
+
+pub enroll_leaves : (path : List ℕ) (pcr : ℕ) (bank : Bank) (key : Option (List ℕ)) (m : Live) → (enrolled_line path pcr bank key m).after.device ≡ Holds (enroll_state pcr bank key m)
+enroll_leaves path pcr bank key m = value_leaves path pcr bank key (pcr_of m.state.banks m.state.pcrs bank pcr) m

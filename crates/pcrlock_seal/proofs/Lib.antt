@@ -2,3 +2,4 @@ pub mod PcrReads
 pub mod Sealed
 pub mod Objects
 pub mod Enrolled
+pub mod Stops

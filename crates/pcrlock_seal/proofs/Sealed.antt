@@ -11,7 +11,7 @@ use Rattle.tpm_model.specs.Rules.{HasRules}
 use Rattle.tpm_device.specs.Stored.{Stored}
 use Rattle.pcrlock_line.specs.declared.reply.Reply.{Reply}
 use Rattle.pcrlock_line.specs.declared.stop.Stop.{Stop}
-use Rattle.pcrlock_line.specs.Machine.{Machine}
+use Rattle.pcrlock_line.specs.Machine.{Machine, Live, machine}
 use Rattle.pcrlock_line.specs.Outcome.{Gives}
 use Rattle.pcrlock_seal.specs.Enroll.{sealed_handle, token_written, key_sealed, with_key}
 
@@ -19,7 +19,7 @@ pub rules_of : (live : Option Parts) (s : Parts) → live ≡ Some s → IfSome 
 rules_of live s e h = let P : Option Parts → Type 0 = λ o. IfSome o HasRules in subst P e h
 
 -- the TPM's answer is that of the definition
-pub sealed_told : (result : Result Reply Stop) (held : Option FileMap) (stored : Option Stored) (draws : Option (List (List ℕ))) (path : List ℕ) (literal : Literal) (key policy : List ℕ) (m : Machine) (response : Response)
+pub sealed_told : (result : Result Reply Stop) (held : Option FileMap) (stored : Option Stored) (draws : Option (List (List ℕ))) (path : List ℕ) (literal : Literal) (key policy : List ℕ) (m : Live) (response : Response)
     → policy ≡ literal_policy literal.hash literal.bank literal.pcr literal.value
     → response ≡ (seal policy key m.state).0
     → IfOk result (λ reply. Gives held stored draws reply (token_written path literal (sealed_handle response) response (seal policy key m.state).1 m))
@@ -30,7 +30,7 @@ sealed_told result held stored draws path literal key policy m response e r h =
     subst Q e (subst P r h)
 
 -- the drawn word is the key, and the rest is to come
-pub drawn_told : (result : Result Reply Stop) (held : Option FileMap) (stored : Option Stored) (now : Option (List (List ℕ))) (path : List ℕ) (literal : Literal) (key word : List ℕ) (draws rest : List (List ℕ)) (m : Machine)
+pub drawn_told : (result : Result Reply Stop) (held : Option FileMap) (stored : Option Stored) (now : Option (List (List ℕ))) (path : List ℕ) (literal : Literal) (key word : List ℕ) (draws rest : List (List ℕ)) (m : Live)
     → draws ≡ word ∷ rest → key ≡ word
     → IfOk result (λ reply. Gives held stored now reply (key_sealed path literal key (record m { draws = rest })))
     → IfOk result (λ reply. Gives held stored now reply (with_key path literal None draws m))

@@ -18,8 +18,9 @@ use Rattle.tpm_model.specs.ObjectCommands.{seal}
 use Rattle.pcrlock_words.specs.declared.answer.Answer.{Answer}
 use Rattle.pcrlock_words.specs.declared.answer.Answer.TheVariants as said
 use Rattle.pcrlock_words.specs.Texts.{enrolled_text}
-use Rattle.pcrlock_line.specs.Machine.{Machine}
-use Rattle.pcrlock_line.specs.Outcome.{Outcome, Fine, Refused}
+use Rattle.pcrlock_line.specs.Machine.{Machine, Live, machine}
+use Rattle.pcrlock_line.specs.Outcome.{Outcome, Fine, Refused, refused_line}
+use Rattle.pcrlock_line.specs.Begun.{by_device}
 
 -- a literal's hash: SHA-384 for the two longest banks, else SHA-256
 abbrev pub literal_hash : Bank → Bank
@@ -43,33 +44,43 @@ abbrev pub seal_refusal : Response → Answer
 seal_refusal (answer.Refused why) = refusal_of why
 seal_refusal _ = said.Limit (codes "objects") 65
 
+-- the machine with another state, and with the token of the object at the path besides
+abbrev pub sealed_machine : Parts → Live → Machine
+sealed_machine s m = machine (record m { state = s })
+
+abbrev pub token_machine : List ℕ → Literal → ℕ → Parts → Live → Machine
+token_machine path literal handle s m = machine (record m { files = insert m.files path (token_text (token.Literal handle literal)); state = s })
+
 -- the object was sealed: its token is written, and its handle printed
-abbrev pub token_written : List ℕ → Literal → Option ℕ → Response → Parts → Machine → Outcome
+abbrev pub token_written : List ℕ → Literal → Option ℕ → Response → Parts → Live → Outcome
 token_written path literal (Some handle) response s m = record {
   ending = Fine (enrolled_text handle);
-  after = record m { files = insert m.files path (token_text (token.Literal handle literal)); state = s };
+  after = token_machine path literal handle s m;
   hashed = literal_strings literal.hash literal.bank literal.pcr literal.value;
+  stops = machine m ∷ sealed_machine s m ∷ token_machine path literal handle s m ∷ [];
 }
 token_written path literal None response s m = record {
   ending = Refused (seal_refusal response);
-  after = record m { state = s };
+  after = sealed_machine s m;
   hashed = literal_strings literal.hash literal.bank literal.pcr literal.value;
+  stops = machine m ∷ sealed_machine s m ∷ [];
 }
 
 -- the key is sealed to the policy of the literal
-abbrev pub key_sealed : List ℕ → Literal → List ℕ → Machine → Outcome
+abbrev pub key_sealed : List ℕ → Literal → List ℕ → Live → Outcome
 key_sealed path literal key m =
     let r = seal (literal_policy literal.hash literal.bank literal.pcr literal.value) key m.state in
     token_written path literal (sealed_handle r.0) r.0 r.1 m
 
 -- the key is the one given, or the next random word; where none is left, none can be drawn
-abbrev pub with_key : List ℕ → Literal → Option (List ℕ) → List (List ℕ) → Machine → Outcome
+abbrev pub with_key : List ℕ → Literal → Option (List ℕ) → List (List ℕ) → Live → Outcome
 with_key path literal (Some key) draws m = key_sealed path literal key m
 with_key path literal None (word ∷ rest) m = key_sealed path literal word (record m { draws = rest })
 with_key path literal None [] m = record {
   ending = Refused said.EntropyFault;
-  after = m;
+  after = machine m;
   hashed = literal_strings literal.hash literal.bank literal.pcr literal.value;
+  stops = machine m ∷ [];
 }
 
 -- the literal that the present value of a PCR makes
@@ -77,10 +88,14 @@ abbrev pub literal_now : Bank → ℕ → List ℕ → Literal
 literal_now bank pcr value = record { hash = literal_hash bank; bank = bank; pcr = pcr; value = value }
 
 -- the PCR's value, or that its bank isn't present
-abbrev pub with_value : List ℕ → ℕ → Bank → Option (List ℕ) → Option (List ℕ) → Machine → Outcome
-with_value path pcr bank key None m = record { ending = Refused (said.BankAbsent bank); after = m; hashed = [] }
+abbrev pub with_value : List ℕ → ℕ → Bank → Option (List ℕ) → Option (List ℕ) → Live → Outcome
+with_value path pcr bank key None m = refused_line (said.BankAbsent bank) (machine m)
 with_value path pcr bank key (Some value) m = with_key path (literal_now bank pcr value) key m.draws m
 
--- `enroll` with a literal
-abbrev pub enroll_line : List ℕ → ℕ → Bank → Option (List ℕ) → Machine → Outcome
-enroll_line path pcr bank key m = with_value path pcr bank key (pcr_of m.state.banks m.state.pcrs bank pcr) m
+-- `enroll` with a literal, on a state
+abbrev pub enrolled_line : List ℕ → ℕ → Bank → Option (List ℕ) → Live → Outcome
+enrolled_line path pcr bank key m = with_value path pcr bank key (pcr_of m.state.banks m.state.pcrs bank pcr) m
+
+-- `enroll` with a literal, over what is stored in the state file
+abbrev pub enroll_line : List ℕ → List ℕ → ℕ → Bank → Option (List ℕ) → Machine → Outcome
+enroll_line state path pcr bank key m = by_device m.device state m (enrolled_line path pcr bank key)

@@ -15,11 +15,13 @@ ghost use Rattle.policy_file.specs.declared.token.Token.TheVariants as token_val
 ghost use Rattle.pcrlock_words.specs.Texts.{enrolled_text};
 ghost use Rattle.tpm_model.specs.World.{World};
 ghost use Rattle.tpm_model.specs.Tied.{Tied};
-ghost use Rattle.pcrlock_seal.specs.EnrollWorld.{enroll_world};
-ghost use Rattle.pcrlock_line.specs.Machine.{Machine, Tells};
+ghost use Rattle.pcrlock_seal.specs.EnrollWorld.{enroll_state, enroll_world};
+ghost use Rattle.pcrlock_line.specs.Stopped.{StandsAmong};
+ghost use Rattle.std.specs.Prelude.{◌⊎◌};
+ghost use Rattle.pcrlock_line.specs.Machine.{Machine, Live, Tells, machine};
 ghost use Rattle.pcrlock_line.specs.Outcome.{Gives, ending_of};
 ghost use Rattle.pcrlock_line.specs.Causes.{HasCauses};
-ghost use Rattle.pcrlock_seal.specs.Enroll.{literal_hash as hash_of_literal, sealed_handle as handle_in, seal_refusal as refusal_in, token_written, key_sealed, with_key, enroll_line};
+ghost use Rattle.pcrlock_seal.specs.Enroll.{literal_hash as hash_of_literal, sealed_handle as handle_in, seal_refusal as refusal_in, token_written, key_sealed, with_key, enrolled_line, enroll_line};
 
 use crate::values::present_value;
 use hash_bank::{Bank, Digest};
@@ -111,13 +113,19 @@ fn write_literal<F: Files>(
     ensures causes { HasCauses (F.faults files.old, 0, 0, 0) (F.faults files.new, 0, 0, 0) result }
     ensures told { (held : FileMap) → F.held files.old ≡ Some held
         → IfOk result (λ line. (line.items ≡ enrolled_text object) × (F.held files.new ≡ Some (insert held path.now (token_text (token_value.Literal object literal.now))))) }
+    ensures stops { (held : FileMap) → F.held files.old ≡ Some held
+        → IfErr result (λ _. (F.held files.new ≡ Some held) ⊎ (F.held files.new ≡ Some (insert held path.now (token_text (token_value.Literal object literal.now))))) }
 {
     let token = Token::Literal {
         object,
         literal: *literal,
     };
-    let bytes = write_token(alloc, &token)?;
-    let line = enrolled_line(alloc, object)?;
+    let Ok(bytes) = write_token(alloc, &token) else {
+        return Err(Stop::Memory);
+    };
+    let Ok(line) = enrolled_line(alloc, object) else {
+        return Err(Stop::Memory);
+    };
     match replace_file(alloc, files, path.text(), bytes.as_slice()) {
         Ok(()) => Ok(line),
         Err(stop) => Err(stop),
@@ -136,9 +144,13 @@ fn seal_key<F: Files, T: Tpm>(
     requires readiness { T.ready tpm.old ≡ true }
     requires literal { IsLiteral literal.now }
     ensures causes { HasCauses (F.faults files.old, 0, T.faults tpm.old, 0) (F.faults files.new, 0, T.faults tpm.new, 0) result }
-    ensures told { (draws : Option (Sequence (Sequence ℕ))) (m : Machine) → Tells (F.held files.old) (T.stored tpm.old) draws m → T.live tpm.old ≡ Some m.state
+    ensures told { (draws : Option (Sequence (Sequence ℕ))) (m : Live) → Tells (F.held files.old) (T.stored tpm.old) draws (machine m) → T.live tpm.old ≡ Some m.state
         → IfOk result (λ reply. Gives (F.held files.new) (T.stored tpm.new) draws reply (key_sealed path.now literal.now key.now m)) }
+    ensures stops { (draws : Option (Sequence (Sequence ℕ))) (m : Live) → Tells (F.held files.old) (T.stored tpm.old) draws (machine m) → T.live tpm.old ≡ Some m.state
+        → IfErr result (λ _. StandsAmong (F.held files.new) (T.stored tpm.new) (key_sealed path.now literal.now key.now m).stops) }
 {
+    let size = key.as_slice().len();
+    prove!(size <= 128);
     let command = Command::Seal {
         policy: policy_of_literal(literal),
         secret: *key,
@@ -159,8 +171,10 @@ fn answered<F: Files>(
 ) -> Result<Reply, Stop>
     requires { IsLiteral literal.now }
     ensures causes { HasCauses (F.faults files.old, 0, 0, 0) (F.faults files.new, 0, 0, 0) result }
-    ensures told { (stored : Option Stored) (draws : Option (Sequence (Sequence ℕ))) (s : Parts) (m : Machine) → F.held files.old ≡ Some m.files → stored ≡ Some (Holds s) → draws ≡ Some m.draws → HasRules s
+    ensures told { (stored : Option Stored) (draws : Option (Sequence (Sequence ℕ))) (s : Parts) (m : Live) → F.held files.old ≡ Some m.files → stored ≡ Some (Holds s) → draws ≡ Some m.draws → HasRules s
         → IfOk result (λ reply. Gives (F.held files.new) stored draws reply (token_written path.now literal.now (handle_in response.now) response.now s m)) }
+    ensures stops { (stored : Option Stored) (s : Parts) (m : Live) → F.held files.old ≡ Some m.files → stored ≡ Some (Holds s) → HasRules s
+        → IfErr result (λ _. StandsAmong (F.held files.new) stored (token_written path.now literal.now (handle_in response.now) response.now s m).stops) }
 {
     match sealed_handle(response) {
         Some(handle) => match write_literal(alloc, files, path, literal, handle) {
@@ -175,13 +189,14 @@ fn answered<F: Files>(
 }
 
 /// Enrolls the key, or a drawn one, under the present value of the PCR, and writes its token to the
-/// path.
+/// path. The TPM's state stands at the path `state`.
 #[tactic(auto, using(crate::proofs::Enrolled::enroll_tied))]
 pub fn enroll<F: Files, T: Tpm, E: Entropy>(
     alloc: Global,
     files: &mut F,
     tpm: &mut T,
     entropy: &mut E,
+    state: &Name,
     path: &Name,
     key: Option<Small>,
     pcr: u8,
@@ -190,14 +205,15 @@ pub fn enroll<F: Files, T: Tpm, E: Entropy>(
     requires { pcr ≤ 23 }
     ensures causes { HasCauses (F.faults files.old, E.faults entropy.old, T.faults tpm.old, 0) (F.faults files.new, E.faults entropy.new, T.faults tpm.new, 0) result }
     ensures told { (m : Machine) → Tells (F.held files.old) (T.stored tpm.old) (E.words entropy.old) m
-        → IfOk result (λ reply. Gives (F.held files.new) (T.stored tpm.new) (E.words entropy.new) reply (enroll_line path.now pcr bank key m)) }
+        → IfOk result (λ reply. Gives (F.held files.new) (T.stored tpm.new) (E.words entropy.new) reply (enroll_line state.now path.now pcr bank key m)) }
+    ensures stops { (m : Machine) → Tells (F.held files.old) (T.stored tpm.old) (E.words entropy.old) m
+        → IfErr result (λ _. StandsAmong (F.held files.new) (T.stored tpm.new) (enroll_line state.now path.now pcr bank key m).stops) }
     // A world that is tied to the state before is tied, with the object, to the state afterwards.
-    ensures tied { (m : Machine) (w : World) → Tells (F.held files.old) (T.stored tpm.old) (E.words entropy.old) m → Tied m.state w
-        → Tied (enroll_line path.now pcr bank key m).after.state (enroll_world pcr bank key m w) }
+    ensures tied { (m : Live) (w : World) → HasRules m.state → Tied m.state w → Tied (enroll_state pcr bank key m) (enroll_world pcr bank key m w) }
 {
-    match ready(alloc, tpm) {
-        Ok(Ok(())) => with_device(alloc, files, tpm, entropy, path, key, pcr, bank),
-        Ok(Err(_)) => Err(Stop::Memory),
+    match ready(alloc, tpm, state) {
+        Ok(None) => with_device(alloc, files, tpm, entropy, path, key, pcr, bank),
+        Ok(Some(answer)) => Ok(Reply::Refused(answer)),
         Err(stop) => Err(stop),
     }
 }
@@ -216,8 +232,10 @@ fn with_device<F: Files, T: Tpm, E: Entropy>(
     requires readiness { T.ready tpm.old ≡ true }
     requires number { pcr ≤ 23 }
     ensures causes { HasCauses (F.faults files.old, E.faults entropy.old, T.faults tpm.old, 0) (F.faults files.new, E.faults entropy.new, T.faults tpm.new, 0) result }
-    ensures told { (m : Machine) → Tells (F.held files.old) (T.stored tpm.old) (E.words entropy.old) m → T.live tpm.old ≡ Some m.state
-        → IfOk result (λ reply. Gives (F.held files.new) (T.stored tpm.new) (E.words entropy.new) reply (enroll_line path.now pcr bank key m)) }
+    ensures told { (m : Live) → Tells (F.held files.old) (T.stored tpm.old) (E.words entropy.old) (machine m) → T.live tpm.old ≡ Some m.state
+        → IfOk result (λ reply. Gives (F.held files.new) (T.stored tpm.new) (E.words entropy.new) reply (enrolled_line path.now pcr bank key m)) }
+    ensures stops { (m : Live) → Tells (F.held files.old) (T.stored tpm.old) (E.words entropy.old) (machine m) → T.live tpm.old ≡ Some m.state
+        → IfErr result (λ _. StandsAmong (F.held files.new) (T.stored tpm.new) (enrolled_line path.now pcr bank key m).stops) }
 {
     match present_value(alloc, tpm, bank, pcr) {
         Ok(Some(value)) => {
@@ -251,8 +269,10 @@ fn seal_under<F: Files, T: Tpm, E: Entropy>(
     requires readiness { T.ready tpm.old ≡ true }
     requires literal { IsLiteral literal.now }
     ensures causes { HasCauses (F.faults files.old, E.faults entropy.old, T.faults tpm.old, 0) (F.faults files.new, E.faults entropy.new, T.faults tpm.new, 0) result }
-    ensures told { (m : Machine) → Tells (F.held files.old) (T.stored tpm.old) (E.words entropy.old) m → T.live tpm.old ≡ Some m.state
+    ensures told { (m : Live) → Tells (F.held files.old) (T.stored tpm.old) (E.words entropy.old) (machine m) → T.live tpm.old ≡ Some m.state
         → IfOk result (λ reply. Gives (F.held files.new) (T.stored tpm.new) (E.words entropy.new) reply (with_key path.now literal.now key m.draws m)) }
+    ensures stops { (m : Live) → Tells (F.held files.old) (T.stored tpm.old) (E.words entropy.old) (machine m) → T.live tpm.old ≡ Some m.state
+        → IfErr result (λ _. StandsAmong (F.held files.new) (T.stored tpm.new) (with_key path.now literal.now key m.draws m).stops) }
 {
     match key {
         Some(key) => seal_key(alloc, files, tpm, path, literal, &key),
@@ -272,8 +292,10 @@ fn seal_drawn<F: Files, T: Tpm, E: Entropy>(
     requires readiness { T.ready tpm.old ≡ true }
     requires literal { IsLiteral literal.now }
     ensures causes { HasCauses (F.faults files.old, E.faults entropy.old, T.faults tpm.old, 0) (F.faults files.new, E.faults entropy.new, T.faults tpm.new, 0) result }
-    ensures told { (m : Machine) → Tells (F.held files.old) (T.stored tpm.old) (E.words entropy.old) m → T.live tpm.old ≡ Some m.state
+    ensures told { (m : Live) → Tells (F.held files.old) (T.stored tpm.old) (E.words entropy.old) (machine m) → T.live tpm.old ≡ Some m.state
         → IfOk result (λ reply. Gives (F.held files.new) (T.stored tpm.new) (E.words entropy.new) reply (with_key path.now literal.now None m.draws m)) }
+    ensures stops { (m : Live) → Tells (F.held files.old) (T.stored tpm.old) (E.words entropy.old) (machine m) → T.live tpm.old ≡ Some m.state
+        → IfErr result (λ _. StandsAmong (F.held files.new) (T.stored tpm.new) (with_key path.now literal.now None m.draws m).stops) }
 {
     match draw(entropy) {
         Ok(word) => match Small::from_slice(&word) {

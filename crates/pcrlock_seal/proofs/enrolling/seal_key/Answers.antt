@@ -1,6 +1,7 @@
 use Rattle.pcrlock_line.proofs.Composed.{then, stops, on_tpm, on_files}
 use Rattle.tpm_model.specs.ObjectCommands.{seal}
 use Rattle.pcrlock_seal.proofs.Sealed.{rules_of, sealed_told}
+use Rattle.pcrlock_seal.proofs.Stops.{sealed_stops, seal_stops}
 use Rattle.pcrlock_seal.proofs.enrolling.seal_key.Goals as goal
 
 pub returns-in-Ok-clause-causes : goal.returns-in-Ok-clause-causes
@@ -24,3 +25,17 @@ returns-in-Err-clause-causes g c =
     let F = g.F.Files.faults in let T = g.T.Tpm.faults in
     stops (F c.args.files.now, 0, T c.args.tpm.now, 0) (F c.args.files.now, 0, T c.ask.new.tpm, 0) c.ask.result c.in-Err.stop
     (on_tpm (F c.args.files.now) 0 0 (T c.args.tpm.now) (T c.ask.new.tpm) c.ask.result c.ask.ensures.causes) c.in-Err.is
+
+pub returns-in-Ok-clause-stops : goal.returns-in-Ok-clause-stops
+returns-in-Ok-clause-stops g c = λ draws m tells live.
+    let told = c.in-Ok.ensures.told m.state live tells.state in
+    let after = (seal c.policy_of_literal.result c.args.key.now m.state).1 in
+    sealed_stops c.answered.result _ _ c.args.path.now c.args.literal.now c.args.key.now c.policy_of_literal.result m c.in-Ok.response
+    c.policy_of_literal.ensures told.answer
+    (c.answered.ensures.stops (g.T.Tpm.stored c.ask.new.tpm) after m tells.files told.stored
+    (rules_of (g.T.Tpm.live c.ask.new.tpm) after told.live (c.in-Ok.ensures.rules m.state live tells.rules)))
+
+pub returns-in-Err-clause-stops : goal.returns-in-Err-clause-stops
+returns-in-Err-clause-stops g c = λ draws m tells live.
+    seal_stops _ _ c.args.path.now c.args.literal.now c.args.key.now c.policy_of_literal.result m c.policy_of_literal.ensures tells.files tells.rules c.as_slice-size.ensures.bound
+    (c.in-Err.ensures.stops m.state live tells.state)
