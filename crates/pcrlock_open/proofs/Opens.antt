@@ -29,7 +29,7 @@ use Rattle.pcrlock_line.specs.declared.reply.Reply.{Reply}
 use Rattle.pcrlock_line.specs.declared.stop.Stop.{Stop}
 use Rattle.pcrlock_line.specs.Outcome.{Ending, Fine, Refused, Outcome, Gives, ending_of}
 use Rattle.pcrlock_open.specs.Unseal.{unseal_line, content_line, token_line, unsealed_line, literal_ending, value_ending, object_ending, present_value}
-use Rattle.pcrlock_open.specs.Headline.{IsEnrolled, OpensExactly}
+use Rattle.pcrlock_open.specs.Headline.{IsEnrolled, IsSafe, OpensExactly}
 
 -- strings that don't clash among more don't clash
 pub safe_right : (xs ys : List HashedString) → NoClash (Contains (xs ++ ys)) → NoClash (Contains ys)
@@ -76,27 +76,27 @@ literal_is : (literal : Literal) (handle : ℕ) (s : Parts) → length s.session
     → literal_ending literal handle s ≡ value_ending (present_value literal s) literal handle s
 literal_is literal handle s slot number = rw (lt-leb 64 (length s.sessions) slot, lt-leb 0x01000000 s.next_session number) refl
 
-ending_is : (m : Live) (w : World) (state path : List ℕ) (handle : ℕ) (literal : Literal) (key : List ℕ) → IsEnrolled m w state path handle literal key
+ending_is : (m : Live) (w : World) (state path : List ℕ) (handle : ℕ) (literal : Literal) (key : List ℕ) → IsSafe m w state path → IsEnrolled m w path handle literal key
     → (unseal_line state path (machine m)).ending ≡ value_ending (present_value literal m.state) literal handle m.state
-ending_is m w state path handle literal key h =
+ending_is m w state path handle literal key good h =
     ap (λ c. (content_line state path c (machine m)).ending) h.written
     ∙ ap (λ r. (token_line state path r (machine m)).ending) (token_again (token.Literal handle literal) h.valid tt)
     ∙ literal_is literal handle m.state h.slot h.number
 
 -- the line prints the key exactly where the PCR holds the literal's value
-pub opens : (m : Live) (w : World) (state path : List ℕ) (handle : ℕ) (literal : Literal) (key : List ℕ) → IsEnrolled m w state path handle literal key
+pub opens : (m : Live) (w : World) (state path : List ℕ) (handle : ℕ) (literal : Literal) (key : List ℕ) → IsSafe m w state path → IsEnrolled m w path handle literal key
     → OpensExactly (unseal_line state path (machine m)).ending key literal m
-opens m w state path handle literal key h =
-    let held = h.tied.objects handle _ h.object in
-    subst (λ x. (x ≡ Fine (key_text key)) ↔ (present_value literal m.state ≡ Some literal.value)) (sym (ending_is m w state path handle literal key h))
+opens m w state path handle literal key good h =
+    let held = good.tied.objects handle _ h.object in
+    subst (λ x. (x ≡ Fine (key_text key)) ↔ (present_value literal m.state ≡ Some literal.value)) (sym (ending_is m w state path handle literal key good h))
     (by_value (present_value literal m.state) literal handle m.state held.object key held.found held.secret held.policy)
 
 -- so does the command, which gives the line
 pub given : (result : Result Reply Stop) (held : Option FileMap) (stored : Option Stored) (words : Option (List (List ℕ))) (m : Live) (w : World) (state path : List ℕ) (handle : ℕ) (literal : Literal) (key : List ℕ)
-    → IsEnrolled m w state path handle literal key
+    → IsSafe m w state path → IsEnrolled m w path handle literal key
     → (NoClash (Contains (unseal_line state path (machine m)).hashed) → IfOk result (λ reply. Gives held stored words reply (unseal_line state path (machine m))))
     → IfOk result (λ reply. OpensExactly (ending_of reply) key literal m)
-given (Ok reply) held stored words m w state path handle literal key h told =
-    let gives = told (safe_right w.hashed (unseal_line state path (machine m)).hashed h.safe) in
-    subst (λ x. OpensExactly x key literal m) (sym gives.ending) (opens m w state path handle literal key h)
-given (Err stop) held stored words m w state path handle literal key h told = tt
+given (Ok reply) held stored words m w state path handle literal key good h told =
+    let gives = told (safe_right w.hashed (unseal_line state path (machine m)).hashed good.safe) in
+    subst (λ x. OpensExactly x key literal m) (sym gives.ending) (opens m w state path handle literal key good h)
+given (Err stop) held stored words m w state path handle literal key good h told = tt

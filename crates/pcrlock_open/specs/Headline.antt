@@ -14,16 +14,19 @@ use Rattle.pcrlock_line.specs.Content.{content_of, Bytes}
 use Rattle.pcrlock_line.specs.Outcome.{Ending, Fine}
 use Rattle.pcrlock_open.specs.Unseal.{unseal_line, present_value}
 
--- the token at the path is that of an object of the world with this literal and these bytes; the
--- world is tied to the state; no strings clash; and a session can be started
-pub record IsEnrolled (m : Live) (w : World) (state path : List ℕ) (handle : ℕ) (literal : Literal) (key : List ℕ) : Type 0 where
-  pub tied : Tied m.state w
-  pub safe : NoClash (Contains (w.hashed ++ (unseal_line state path (machine m)).hashed))
+-- the token at the path is that of an object of the world with this literal and these bytes, and a
+-- session can be started
+pub record IsEnrolled (m : Live) (w : World) (path : List ℕ) (handle : ℕ) (literal : Literal) (key : List ℕ) : Type 0 where
   pub written : content_of m.files path 256 ≡ Bytes (token_text (token.Literal handle literal))
   pub valid : IsToken (token.Literal handle literal)
   pub object : get w.objects handle ≡ Some (record { secret = key; binding = binding.Literal literal.hash literal.bank literal.pcr literal.value })
   pub slot : length m.state.sessions < 64
   pub number : m.state.next_session < 0x01000000
+
+-- the world is tied to the state, and no strings clash among its own and those of the command
+pub record IsSafe (m : Live) (w : World) (state path : List ℕ) : Type 0 where
+  pub tied : Tied m.state w
+  pub safe : NoClash (Contains (w.hashed ++ (unseal_line state path (machine m)).hashed))
 
 -- the end is the key's line exactly where the PCR holds the literal's value
 abbrev pub OpensExactly : Ending → List ℕ → Literal → Live → Type 0

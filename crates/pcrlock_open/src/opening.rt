@@ -16,7 +16,7 @@ ghost use Rattle.pcrlock_open.specs.Endings.{IsOpened};
 ghost use Rattle.tpm_model.specs.World.{World};
 ghost use Rattle.policy_file.specs.declared.token.Literal.{Literal as LiteralValue};
 ghost use Rattle.pcrlock_line.specs.Outcome.{ending_of};
-ghost use Rattle.pcrlock_open.specs.Headline.{IsEnrolled, OpensExactly};
+ghost use Rattle.pcrlock_open.specs.Headline.{IsEnrolled, IsSafe, OpensExactly};
 ghost use Rattle.pcrlock_open.specs.Unseal.{literal_line, unseal_line};
 
 use crate::answers::reply_to;
@@ -132,7 +132,7 @@ pub fn unseal<F: Files, T: Tpm>(
     // The key of an object of the world comes out exactly where its PCR holds the value that it was
     // sealed to.
     ensures headline { (words : Option (Sequence (Sequence ℕ))) (m : Live) (w : World) (handle : ℕ) (literal : LiteralValue) (key : Sequence ℕ)
-        → Tells (F.held files.old) (T.stored tpm.old) words (machine m) → IsEnrolled m w state.now path.now handle literal key
+        → Tells (F.held files.old) (T.stored tpm.old) words (machine m) → IsSafe m w state.now path.now → IsEnrolled m w path.now handle literal key
         → IfOk result (λ reply. OpensExactly (ending_of reply) key literal m) }
 {
     opened(alloc, files, tpm, state, path)
