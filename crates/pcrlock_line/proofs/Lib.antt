@@ -2,3 +2,4 @@ pub mod Refusals
 pub mod Composed
 pub mod Replaced
 pub mod Devices
+pub mod Ties

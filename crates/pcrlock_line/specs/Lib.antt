@@ -6,3 +6,4 @@ pub mod Asked
 pub mod Begun
 pub mod Changes
 pub mod Stopped
+pub mod Worlds

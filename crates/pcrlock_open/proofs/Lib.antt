@@ -3,3 +3,4 @@ pub mod Gives
 pub mod Opens
 pub mod SameValues
 pub mod Stops
+pub mod Ties

@@ -10,35 +10,34 @@ use Rattle.hash_bank.specs.declared.bank.Bank.{Bank}
 use Rattle.pcrlock_words.specs.declared.answer.Answer.TheVariants as answers
 use Rattle.pcrlock_line.specs.declared.reply.Reply.{Reply}
 use Rattle.pcrlock_line.specs.declared.stop.Stop.{Stop}
-use Rattle.pcrlock_line.specs.Outcome.{Outcome}
+use Rattle.pcrlock_line.specs.Outcome.{Outcome, refused_line}
 use Rattle.pcrlock_seal.specs.Enroll.{enroll_line}
 use Rattle.pcrlock_run.specs.Leaves.{Safe}
-use Rattle.pcrlock_run.specs.Script.{command_line, enroll_outcome, unseal_outcome, refused}
+use Rattle.pcrlock_run.specs.Script.{command_line, enroll_outcome, unseal_outcome}
 
 -- an extend of a PCR up to 23
-pub extends : (request : Request) (pcr : ℕ) (bytes given : List ℕ) (m : Machine) → request ≡ requests.TpmExtend pcr bytes → given ≡ bytes → pcr ≤ 23
-    → command_line request m ≡ tpm_extend_line pcr given m
+pub extends : (state : List ℕ) (request : Request) (pcr : ℕ) (bytes given : List ℕ) (m : Machine) → request ≡ requests.TpmExtend pcr bytes → given ≡ bytes → pcr ≤ 23
+    → command_line state request m ≡ tpm_extend_line state pcr given m
 unfolding command_line
-extends request pcr bytes given m is same small = rw (is, le-leb pcr 23 small) (ap (λ b. tpm_extend_line pcr b m) (sym same))
+extends state request pcr bytes given m is same small = rw (is, le-leb pcr 23 small) (ap (λ b. tpm_extend_line state pcr b m) (sym same))
 
 -- an enrolling under a PCR up to 23, and one by its request
-pub enrolls_under : (token : List ℕ) (key : Option (List ℕ)) (literal : Option ℕ) (pcr : ℕ) (bank : Bank) (m : Machine) → literal ≡ Some pcr → pcr ≤ 23
-    → enroll_outcome token key literal bank m ≡ enroll_line token pcr bank key m
+pub enrolls_under : (state token : List ℕ) (key : Option (List ℕ)) (literal : Option ℕ) (pcr : ℕ) (bank : Bank) (m : Machine) → literal ≡ Some pcr → pcr ≤ 23
+    → enroll_outcome state token key literal bank m ≡ enroll_line state token pcr bank key m
 unfolding enroll_outcome
-enrolls_under token key literal pcr bank m is small =
-    ap (λ (l : Option ℕ). enroll_outcome token key l bank m) is
-    ∙ ap (λ (v : Bool). if v then enroll_line token pcr bank key m else refused answers.BadWords m) (le-leb pcr 23 small)
+enrolls_under state token key literal pcr bank m is small =
+    ap (λ (l : Option ℕ). enroll_outcome state token key l bank m) is
+    ∙ ap (λ (v : Bool). if v then enroll_line state token pcr bank key m else refused_line answers.BadWords m) (le-leb pcr 23 small)
 
-pub enrolls : (request : Request) (token policy : List ℕ) (key : Option (List ℕ)) (literal : Option ℕ) (bank : Bank) (m : Machine) → request ≡ requests.Enroll token policy key literal bank
-    → command_line request m ≡ enroll_outcome token key literal bank m
+pub enrolls : (state : List ℕ) (request : Request) (token policy : List ℕ) (key : Option (List ℕ)) (literal : Option ℕ) (bank : Bank) (m : Machine) → request ≡ requests.Enroll token policy key literal bank
+    → command_line state request m ≡ enroll_outcome state token key literal bank m
 unfolding command_line
-enrolls request token policy key literal bank m is = ap (λ (r : Request). command_line r m) is
+enrolls state request token policy key literal bank m is = ap (λ (r : Request). command_line state r m) is
 
-pub unseals : (request : Request) (token policy : List ℕ) (m : Machine) → request ≡ requests.Unseal token policy → command_line request m ≡ unseal_outcome token m
+pub unseals : (state : List ℕ) (request : Request) (token policy : List ℕ) (m : Machine) → request ≡ requests.Unseal token policy → command_line state request m ≡ unseal_outcome state token m
 unfolding command_line
-unseals request token policy m is = ap (λ (r : Request). command_line r m) is
+unseals state request token policy m is = ap (λ (r : Request). command_line state r m) is
 
 -- what holds of an outcome holds of one that equals it
-pub by_outcome : (a b : Outcome) (result : Result Reply Stop) (L : Reply → Outcome → Type 0) → a ≡ b
-    → (Safe b.hashed → IfOk result (λ r. L r b)) → Safe a.hashed → IfOk result (λ r. L r a)
-by_outcome a b result L e f = subst (λ (o : Outcome). Safe o.hashed → IfOk result (λ r. L r o)) (sym e) f
+pub by_outcome : (a b : Outcome) (L : Outcome → Type 0) → a ≡ b → L b → L a
+by_outcome a b L e f = subst L (sym e) f

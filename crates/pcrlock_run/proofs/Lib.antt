@@ -1,6 +1,9 @@
 pub mod Widened
+pub mod Said
+pub mod Marks
 pub mod Folds
 pub mod Parts
 pub mod Commands
-pub mod Marks
 pub mod Texts
+pub mod Kept
+pub mod Exact

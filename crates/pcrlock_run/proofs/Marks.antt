@@ -1,22 +1,33 @@
 -- What a command left, as a line of a script and alone.
-use Rattle.std.proofs.Common.{◌≡◌, ℕ, List, [], ◌++◌, refl, sym, ap, ◌∙◌, append_assoc}
-use Rattle.std.specs.Prelude.{Option, Some}
+use Rattle.std.proofs.Common.{◌≡◌, ◌⊎◌, ℕ, List, [], ◌∷◌, ◌++◌, inl, inr, refl, sym, ap, ◌∙◌, subst, append_assoc}
+use Rattle.std.specs.Prelude.{Option, Some, Result, Ok, Err, IfOk, IfErr}
 use Rattle.std.proofs.lemmas.List.{append-nil}
 use Rattle.pl_base.specs.FileMap.{FileMap}
 use Rattle.tpm_device.specs.Stored.{Stored}
 use Rattle.pcrlock_words.specs.Texts.{status_text}
 use Rattle.pcrlock_line.specs.declared.reply.Reply.{Reply}
+use Rattle.pcrlock_line.specs.declared.stop.Stop.{Stop}
+use Rattle.pcrlock_line.specs.Machine.{Machine}
 use Rattle.pcrlock_line.specs.Outcome.{Ending, Outcome, Gives, ending_of}
-use Rattle.pcrlock_run.specs.Status.{status_of, out_of}
+use Rattle.pcrlock_line.specs.Stopped.{StandsAt, StandsAmong}
+use Rattle.pcrlock_line.proofs.Devices.{stands}
+use Rattle.pcrlock_run.specs.declared.status.Status.{Status}
+use Rattle.pcrlock_run.specs.Status.{status_of, out_of, err_of, number_of}
+use Rattle.pcrlock_run.specs.Says.{Says}
 use Rattle.pcrlock_run.specs.Script.{marked}
 use Rattle.pcrlock_run.specs.Whole.{alone}
 use Rattle.pcrlock_run.specs.Leaves.{Leaves}
+use Rattle.pcrlock_run.proofs.Said.{says_same}
 
-pub marked_leaves : (held : Option FileMap) (stored : Option Stored) (draws : Option (List (List ℕ))) (written : Option (List ℕ)) (before : List ℕ) (o : Outcome) (reply : Reply) (number : ℕ)
-    → Gives held stored draws reply o → number ≡ status_of (ending_of reply)
-    → written ≡ Some ((before ++ out_of (ending_of reply)) ++ status_text number)
-    → Leaves held stored draws written before number (marked o)
-marked_leaves held stored draws written before o reply number gives same out =
+pub marked_leaves : (held : Option FileMap) (stored : Option Stored) (draws : Option (List (List ℕ))) (u v : Option (List ℕ)) (f : ℕ) (x : Option (List ℕ)) (g : ℕ) (y : Option (List ℕ)) (m : Machine) (o : Outcome) (reply : Reply) (result : Result Status Stop)
+    → Gives held stored draws reply o
+    → IfOk result (λ status. number_of status ≡ status_of (ending_of reply))
+    → ((before : List ℕ) → u ≡ Some before → IfOk result (λ status. v ≡ Some ((before ++ out_of (ending_of reply)) ++ status_text (number_of status))))
+    → IfOk result (λ _. Says f x g y (err_of (ending_of reply)))
+    → IfOk result (λ status. Leaves held stored draws u v f x g y (number_of status) (marked m o))
+marked_leaves held stored draws u v f x g y m o reply (Err stop) gives same out said = tt
+marked_leaves held stored draws u v f x g y m o reply (Ok given) gives same out said =
+    let number : ℕ = number_of given in
     let status : number ≡ status_of o.ending = same ∙ ap status_of gives.ending in
     let text : out_of (ending_of reply) ++ status_text number ≡ (out_of o.ending ++ status_text (status_of o.ending)) ++ [] =
     ap (λ (t : List ℕ). t ++ status_text number) (ap out_of gives.ending)
@@ -24,16 +35,43 @@ marked_leaves held stored draws written before o reply number gives same out =
     ∙ sym (append-nil (out_of o.ending ++ status_text (status_of o.ending))) in
     record {
       status = status;
-      out = out ∙ ap Some (append_assoc before (out_of (ending_of reply)) (status_text number) ∙ ap (λ (t : List ℕ). before ++ t) text);
+      out = λ before e. out before e ∙ ap Some (append_assoc before (out_of (ending_of reply)) (status_text number) ∙ ap (λ (t : List ℕ). before ++ t) text);
+      err = says_same f x g y _ _ (ap err_of gives.ending ∙ sym (append-nil (err_of o.ending))) said;
       tells = gives.tells;
     }
 
-pub alone_leaves : (held : Option FileMap) (stored : Option Stored) (draws : Option (List (List ℕ))) (written : Option (List ℕ)) (before : List ℕ) (o : Outcome) (reply : Reply) (number : ℕ)
-    → Gives held stored draws reply o → number ≡ status_of (ending_of reply)
-    → written ≡ Some (before ++ out_of (ending_of reply))
-    → Leaves held stored draws written before number (alone o)
-alone_leaves held stored draws written before o reply number gives same out = record {
+pub alone_leaves : (held : Option FileMap) (stored : Option Stored) (draws : Option (List (List ℕ))) (u v : Option (List ℕ)) (f : ℕ) (x : Option (List ℕ)) (g : ℕ) (y : Option (List ℕ)) (o : Outcome) (reply : Reply) (result : Result Status Stop)
+    → Gives held stored draws reply o
+    → IfOk result (λ status. number_of status ≡ status_of (ending_of reply))
+    → ((before : List ℕ) → u ≡ Some before → IfOk result (λ _. v ≡ Some (before ++ out_of (ending_of reply))))
+    → IfOk result (λ _. Says f x g y (err_of (ending_of reply)))
+    → IfOk result (λ status. Leaves held stored draws u v f x g y (number_of status) (alone o))
+alone_leaves held stored draws u v f x g y o reply (Err stop) gives same out said = tt
+alone_leaves held stored draws u v f x g y o reply (Ok given) gives same out said = record {
   status = same ∙ ap status_of gives.ending;
-  out = out ∙ ap (λ (e : Ending). Some (before ++ out_of e)) gives.ending;
+  out = λ before e. out before e ∙ ap (λ (d : Ending). Some (before ++ out_of d)) gives.ending;
+  err = says_same f x g y _ _ (ap err_of gives.ending) said;
   tells = gives.tells;
 }
+
+-- one of some machines is one of more
+pub among_left : (held : Option FileMap) (stored : Option Stored) (xs ys : List Machine) → StandsAmong held stored xs → StandsAmong held stored (xs ++ ys)
+among_left held stored [] ys h = absurd h
+among_left held stored (m ∷ xs) ys (inl at) = inl at
+among_left held stored (m ∷ xs) ys (inr more) = inr (among_left held stored xs ys more)
+
+pub among_right : (held : Option FileMap) (stored : Option Stored) (xs ys : List Machine) → StandsAmong held stored ys → StandsAmong held stored (xs ++ ys)
+among_right held stored [] ys h = h
+among_right held stored (m ∷ xs) ys h = inr (among_right held stored xs ys h)
+
+-- a stop once a line is done, and one before
+pub marked_stops : (held : Option FileMap) (stored : Option Stored) (draws : Option (List (List ℕ))) (m : Machine) (o : Outcome) (reply : Reply) (result : Result Status Stop) → Gives held stored draws reply o
+    → IfErr result (λ _. StandsAmong held stored (marked m o).stops)
+marked_stops held stored draws m o reply (Ok given) gives = tt
+marked_stops held stored draws m o reply (Err stop) gives = inr (among_right held stored o.stops (o.after ∷ []) (inl (stands held stored draws o.after gives.tells)))
+
+pub line_stops : (held : Option FileMap) (stored : Option Stored) (m : Machine) (o : Outcome) → StandsAmong held stored o.stops → StandsAmong held stored (marked m o).stops
+line_stops held stored m o h = inr (among_left held stored o.stops (o.after ∷ []) h)
+
+pub alone_done : (held : Option FileMap) (stored : Option Stored) (draws : Option (List (List ℕ))) (o : Outcome) (reply : Reply) → Gives held stored draws reply o → StandsAt held stored o.after
+alone_done held stored draws o reply gives = stands held stored draws o.after gives.tells

@@ -1,19 +1,31 @@
 -- What a run leaves in the objects that were lent to it.
-use Rattle.std.specs.Prelude.{◌≡◌, ℕ, List, ◌++◌, Option, Some}
+use Rattle.std.specs.Prelude.{◌≡◌, ℕ, List, ◌++◌, Option, None, Some}
 use Rattle.std.specs.List.{Contains}
 use Rattle.pl_base.specs.FileMap.{FileMap}
 use Rattle.hash_bank.specs.HashedString.{HashedString, NoClash}
 use Rattle.tpm_device.specs.Stored.{Stored}
+use Rattle.pcrlock_words.specs.declared.request.Request.{Request}
+use Rattle.pcrlock_words.specs.declared.request.Request.TheVariants as requests
 use Rattle.pcrlock_line.specs.Machine.{Machine, Tells}
+use Rattle.pcrlock_run.specs.Says.{Says}
 use Rattle.pcrlock_run.specs.Script.{Whole}
 
 -- none of the listed strings clash
 abbrev pub Safe : List HashedString → Type 0
 Safe hashed = NoClash (Contains hashed)
 
--- the status is the whole's, its text stands behind what was written before, and the objects tell the
--- machine afterwards
-pub record Leaves (held : Option FileMap) (stored : Option Stored) (words : Option (List (List ℕ))) (written : Option (List ℕ)) (before : List ℕ) (number : ℕ) (whole : Whole) : Type 0 where
+-- the status is the whole's, its texts stand behind what was written before (the one on standard error
+-- where its count of faults didn't rise), and the objects tell the machine afterwards
+pub record Leaves (held : Option FileMap) (stored : Option Stored) (words : Option (List (List ℕ))) (out_before out_now : Option (List ℕ)) (faults_before : ℕ) (err_before : Option (List ℕ)) (faults_now : ℕ) (err_now : Option (List ℕ)) (number : ℕ) (whole : Whole) : Type 0 where
   pub status : number ≡ whole.status
-  pub out : written ≡ Some (before ++ whole.out)
+  pub out : (before : List ℕ) → out_before ≡ Some before → out_now ≡ Some (before ++ whole.out)
+  pub err : Says faults_before err_before faults_now err_now whole.err
   pub tells : Tells held stored words whole.after
+
+-- the words are no script's
+abbrev pub IsNoScript : Option Request → Type 0
+IsNoScript (Some (requests.Script file policy index)) = ⊥
+IsNoScript (Some (requests.Enroll token policy key literal bank)) = Unit {0}
+IsNoScript (Some (requests.Unseal token policy)) = Unit {0}
+IsNoScript (Some (requests.TpmExtend pcr bytes)) = Unit {0}
+IsNoScript None = Unit {0}

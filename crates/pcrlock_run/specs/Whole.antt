@@ -7,10 +7,10 @@ use Rattle.pcrlock_words.specs.declared.request.Request.{Request}
 use Rattle.pcrlock_words.specs.declared.request.Request.TheVariants as requests
 use Rattle.pcrlock_words.specs.Requests.{request_of}
 use Rattle.pcrlock_line.specs.Machine.{Machine}
-use Rattle.pcrlock_line.specs.Outcome.{Outcome}
+use Rattle.pcrlock_line.specs.Outcome.{Outcome, refused_line}
 use Rattle.pcrlock_line.specs.Content.{Content, Missing, TooLarge, Bytes, content_of}
 use Rattle.pcrlock_run.specs.Lines.{lines_of, line_count}
-use Rattle.pcrlock_run.specs.Script.{Whole, script, refused, command_line}
+use Rattle.pcrlock_run.specs.Script.{Whole, script, command_line}
 use Rattle.pcrlock_run.specs.Status.{status_of, out_of, err_of}
 
 -- a single command outside a script
@@ -21,6 +21,7 @@ alone outcome = record {
   status = status_of outcome.ending;
   after = outcome.after;
   hashed = outcome.hashed;
+  stops = outcome.stops;
 }
 
 -- the most bytes of a script, 4 MiB, and the most lines
@@ -31,41 +32,42 @@ abbrev pub script_lines_limit : ℕ
 script_lines_limit = 65536
 
 -- a script of this text, unless it has too many lines
-abbrev pub script_of_text : List ℕ → List ℕ → Machine → Whole
-script_of_text policy text m =
+abbrev pub script_of_text : List ℕ → List ℕ → List ℕ → Machine → Whole
+script_of_text state policy text m =
     if nat_lt script_lines_limit (line_count text)
-    then alone (refused (answers.Limit (codes "lines") 65537) m)
-    else script (lines_of text) policy m
+    then alone (refused_line (answers.Limit (codes "lines") 65537) m)
+    else script state (lines_of text) policy m
 
 -- a script of these bytes, unless they are no UTF-8: the place is that of the first byte at which they
 -- aren't
-abbrev pub script_of_bytes : List ℕ → List ℕ → List ℕ → Machine → Whole
-script_of_bytes file policy bytes m =
+abbrev pub script_of_bytes : List ℕ → List ℕ → List ℕ → List ℕ → Machine → Whole
+script_of_bytes state file policy bytes m =
     if nat_lt (utf8_valid_len bytes) (length bytes)
-    then alone (refused (answers.Malformed file (At (utf8_valid_len bytes))) m)
-    else script_of_text policy bytes m
+    then alone (refused_line (answers.Malformed file (At (utf8_valid_len bytes))) m)
+    else script_of_text state policy bytes m
 
 -- a script in a file
-abbrev pub script_of_content : List ℕ → List ℕ → Content → Machine → Whole
-script_of_content file policy Missing m = alone (refused (answers.NoSuchFile file) m)
-script_of_content file policy (TooLarge size) m = alone (refused (answers.Limit (codes "script-bytes") size) m)
-script_of_content file policy (Bytes bytes) m = script_of_bytes file policy bytes m
+abbrev pub script_of_content : List ℕ → List ℕ → List ℕ → Content → Machine → Whole
+script_of_content state file policy Missing m = alone (refused_line (answers.NoSuchFile file) m)
+script_of_content state file policy (TooLarge size) m = alone (refused_line (answers.Limit (codes "script-bytes") size) m)
+script_of_content state file policy (Bytes bytes) m = script_of_bytes state file policy bytes m
 
-abbrev pub run_script : List ℕ → List ℕ → Machine → Whole
-run_script file policy m = script_of_content file policy (content_of m.files file script_bytes_limit) m
+abbrev pub run_script : List ℕ → List ℕ → List ℕ → Machine → Whole
+run_script state file policy m = script_of_content state file policy (content_of m.files file script_bytes_limit) m
 
 -- what a request does
-abbrev pub run_request : Request → Machine → Whole
-run_request (requests.Script file policy index) m = run_script file policy m
-run_request (requests.Enroll token policy key literal bank) m = alone (command_line (requests.Enroll token policy key literal bank) m)
-run_request (requests.Unseal token policy) m = alone (command_line (requests.Unseal token policy) m)
-run_request (requests.TpmExtend pcr bytes) m = alone (command_line (requests.TpmExtend pcr bytes) m)
+abbrev pub run_request : List ℕ → Request → Machine → Whole
+run_request state (requests.Script file policy index) m = run_script state file policy m
+run_request state (requests.Enroll token policy key literal bank) m = alone (command_line state (requests.Enroll token policy key literal bank) m)
+run_request state (requests.Unseal token policy) m = alone (command_line state (requests.Unseal token policy) m)
+run_request state (requests.TpmExtend pcr bytes) m = alone (command_line state (requests.TpmExtend pcr bytes) m)
 
 -- what words do that spell a request, or none
-abbrev pub run_spelled : Option Request → Machine → Whole
-run_spelled None m = alone (refused answers.BadWords m)
-run_spelled (Some request) m = run_request request m
+abbrev pub run_spelled : List ℕ → Option Request → Machine → Whole
+run_spelled state None m = alone (refused_line answers.BadWords m)
+run_spelled state (Some request) m = run_request state request m
 
--- what the program does with its words
+-- what the program does with its words, the first of which is the path of the TPM's state
 unfoldable pub run_line : List (List ℕ) → Machine → Whole
-run_line words m = run_spelled (request_of words None) m
+run_line [] m = alone (refused_line answers.BadWords m)
+run_line (state ∷ words) m = run_spelled state (request_of (state ∷ words) None) m

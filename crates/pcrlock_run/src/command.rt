@@ -1,7 +1,8 @@
 //! The one place that goes by the kind of a request.
-ghost use Rattle.std.specs.Prelude.{◌≡◌, ℕ, Some, Option, List as Sequence, IfOk};
+ghost use Rattle.std.specs.Prelude.{◌≡◌, ℕ, Some, Option, List as Sequence, IfOk, IfErr};
 ghost use Rattle.pcrlock_line.specs.Machine.{Machine, Tells};
 ghost use Rattle.pcrlock_line.specs.Outcome.{Gives};
+ghost use Rattle.pcrlock_line.specs.Stopped.{StandsAmong};
 ghost use Rattle.pcrlock_line.specs.Causes.{HasCauses};
 ghost use Rattle.pcrlock_run.specs.Script.{command_line, enroll_outcome, unseal_outcome, line as line_outcome};
 ghost use Rattle.pcrlock_run.specs.Leaves.{Safe};
@@ -20,6 +21,7 @@ use tpm_device::Tpm;
 #[tactic(auto, unfolding(crate::specs::Script::enroll_outcome))]
 fn enroll_literal<F: Files, T: Tpm, E: Entropy>(
     alloc: Global,
+    state: &Name,
     files: &mut F,
     tpm: &mut T,
     entropy: &mut E,
@@ -30,12 +32,14 @@ fn enroll_literal<F: Files, T: Tpm, E: Entropy>(
 ) -> Result<Reply, Stop>
     ensures causes { HasCauses (F.faults files.old, E.faults entropy.old, T.faults tpm.old, 0) (F.faults files.new, E.faults entropy.new, T.faults tpm.new, 0) result }
     ensures told { (m : Machine) → Tells (F.held files.old) (T.stored tpm.old) (E.words entropy.old) m
-        → IfOk result (λ reply. Gives (F.held files.new) (T.stored tpm.new) (E.words entropy.new) reply (enroll_outcome token.now key.now literal bank m)) }
+        → IfOk result (λ reply. Gives (F.held files.new) (T.stored tpm.new) (E.words entropy.new) reply (enroll_outcome state.now token.now key.now literal bank m)) }
+    ensures stops { (m : Machine) → Tells (F.held files.old) (T.stored tpm.old) (E.words entropy.old) m
+        → IfErr result (λ _. StandsAmong (F.held files.new) (T.stored tpm.new) (enroll_outcome state.now token.now key.now literal bank m).stops) }
 {
     match literal {
         Some(pcr) => {
             if pcr <= 23 {
-                enroll(alloc, files, tpm, entropy, token, *key, pcr, bank)
+                enroll(alloc, files, tpm, entropy, state, token, *key, pcr, bank)
             } else {
                 Ok(Reply::Refused(Answer::BadWords))
             }
@@ -48,34 +52,42 @@ fn enroll_literal<F: Files, T: Tpm, E: Entropy>(
 #[tactic(auto, unfolding(crate::specs::Script::unseal_outcome))]
 fn unseal_token<F: Files, T: Tpm>(
     alloc: Global,
+    state: &Name,
     files: &mut F,
     tpm: &mut T,
     token: &Name,
 ) -> Result<Reply, Stop>
     ensures causes { HasCauses (F.faults files.old, 0, T.faults tpm.old, 0) (F.faults files.new, 0, T.faults tpm.new, 0) result }
-    ensures told { (words : Option (Sequence (Sequence ℕ))) (m : Machine) → Tells (F.held files.old) (T.stored tpm.old) words m → Safe (unseal_outcome token.now m).hashed
-        → IfOk result (λ reply. Gives (F.held files.new) (T.stored tpm.new) words reply (unseal_outcome token.now m)) }
+    ensures told { (words : Option (Sequence (Sequence ℕ))) (m : Machine) → Tells (F.held files.old) (T.stored tpm.old) words m → Safe (unseal_outcome state.now token.now m).hashed
+        → IfOk result (λ reply. Gives (F.held files.new) (T.stored tpm.new) words reply (unseal_outcome state.now token.now m)) }
+    ensures stops { (words : Option (Sequence (Sequence ℕ))) (m : Machine) → Tells (F.held files.old) (T.stored tpm.old) words m
+        → IfErr result (λ _. StandsAmong (F.held files.new) (T.stored tpm.new) (unseal_outcome state.now token.now m).stops) }
 {
-    unseal(alloc, files, tpm, token)
+    unseal(alloc, files, tpm, state, token)
 }
 
-/// Runs the command of a request. A script is no command of a script.
+/// Runs the command of a request, where the TPM's state stands at the path. A script is no command of a
+/// script.
 #[tactic(auto, unfolding(crate::specs::Script::command_line))]
 pub fn command<F: Files, T: Tpm, E: Entropy>(
     alloc: Global,
+    state: &Name,
     request: &Request,
     files: &mut F,
     tpm: &mut T,
     entropy: &mut E,
 ) -> Result<Reply, Stop>
     ensures causes { HasCauses (F.faults files.old, E.faults entropy.old, T.faults tpm.old, 0) (F.faults files.new, E.faults entropy.new, T.faults tpm.new, 0) result }
-    ensures told { (m : Machine) → Tells (F.held files.old) (T.stored tpm.old) (E.words entropy.old) m → Safe (command_line request.now m).hashed
-        → IfOk result (λ reply. Gives (F.held files.new) (T.stored tpm.new) (E.words entropy.new) reply (command_line request.now m)) }
+    ensures told { (m : Machine) → Tells (F.held files.old) (T.stored tpm.old) (E.words entropy.old) m
+        → Safe (command_line state.now request.now m).hashed
+        → IfOk result (λ reply. Gives (F.held files.new) (T.stored tpm.new) (E.words entropy.new) reply (command_line state.now request.now m)) }
+    ensures stops { (m : Machine) → Tells (F.held files.old) (T.stored tpm.old) (E.words entropy.old) m
+        → IfErr result (λ _. StandsAmong (F.held files.new) (T.stored tpm.new) (command_line state.now request.now m).stops) }
 {
     match request {
         Request::TpmExtend { pcr, bytes } => {
             if *pcr <= 23 {
-                tpm_extend(alloc, tpm, *pcr, bytes.as_slice())
+                tpm_extend(alloc, tpm, state, *pcr, bytes.as_slice())
             } else {
                 Ok(Reply::Refused(Answer::BadWords))
             }
@@ -86,8 +98,8 @@ pub fn command<F: Files, T: Tpm, E: Entropy>(
             literal,
             bank,
             ..
-        } => enroll_literal(alloc, files, tpm, entropy, token, key, *literal, *bank),
-        Request::Unseal { token, .. } => unseal_token(alloc, files, tpm, token),
+        } => enroll_literal(alloc, state, files, tpm, entropy, token, key, *literal, *bank),
+        Request::Unseal { token, .. } => unseal_token(alloc, state, files, tpm, token),
         Request::Script { .. } => Ok(Reply::Refused(Answer::BadWords)),
     }
 }
@@ -96,6 +108,7 @@ pub fn command<F: Files, T: Tpm, E: Entropy>(
 #[tactic(auto, unfolding(crate::specs::Script::line))]
 pub fn line<F: Files, T: Tpm, E: Entropy>(
     alloc: Global,
+    state: &Name,
     words: &[Name],
     policy: &Name,
     files: &mut F,
@@ -103,11 +116,14 @@ pub fn line<F: Files, T: Tpm, E: Entropy>(
     entropy: &mut E,
 ) -> Result<Reply, Stop>
     ensures causes { HasCauses (F.faults files.old, E.faults entropy.old, T.faults tpm.old, 0) (F.faults files.new, E.faults entropy.new, T.faults tpm.new, 0) result }
-    ensures told { (m : Machine) → Tells (F.held files.old) (T.stored tpm.old) (E.words entropy.old) m → Safe (line_outcome words.now policy.now m).hashed
-        → IfOk result (λ reply. Gives (F.held files.new) (T.stored tpm.new) (E.words entropy.new) reply (line_outcome words.now policy.now m)) }
+    ensures told { (m : Machine) → Tells (F.held files.old) (T.stored tpm.old) (E.words entropy.old) m
+        → Safe (line_outcome state.now words.now policy.now m).hashed
+        → IfOk result (λ reply. Gives (F.held files.new) (T.stored tpm.new) (E.words entropy.new) reply (line_outcome state.now words.now policy.now m)) }
+    ensures stops { (m : Machine) → Tells (F.held files.old) (T.stored tpm.old) (E.words entropy.old) m
+        → IfErr result (λ _. StandsAmong (F.held files.new) (T.stored tpm.new) (line_outcome state.now words.now policy.now m).stops) }
 {
     match read_words(alloc, words, Some(policy)) {
-        Ok(request) => command(alloc, &request, files, tpm, entropy),
+        Ok(request) => command(alloc, state, &request, files, tpm, entropy),
         Err(WordsError::BadWords) => Ok(Reply::Refused(Answer::BadWords)),
         Err(WordsError::Memory) => Err(Stop::Memory),
     }

@@ -1,7 +1,7 @@
 //! A script, line by line.
-ghost use Rattle.std.specs.Prelude.{◌≡◌, ◌++◌, [], ◌∷◌, ℕ, Some, Option, List as Sequence, IfOk, OnOk};
-ghost use Rattle.pcrlock_words.specs.Texts.{status_text};
+ghost use Rattle.std.specs.Prelude.{◌≡◌, ◌++◌, [], ◌∷◌, ℕ, Some, Option, List as Sequence, IfOk, IfErr};
 ghost use Rattle.pcrlock_line.specs.Machine.{Machine, Tells};
+ghost use Rattle.pcrlock_line.specs.Stopped.{StandsAmong};
 ghost use Rattle.pcrlock_line.specs.Causes.{HasCauses};
 ghost use Rattle.pcrlock_run.specs.Status.{number_of};
 ghost use Rattle.pcrlock_run.specs.Lines.{lines_among, lines_of};
@@ -10,26 +10,18 @@ ghost use Rattle.pcrlock_run.specs.Leaves.{Safe, Leaves};
 
 use crate::command::line;
 use crate::next::{is_passed_over, next_line};
-use crate::show::{show, write};
+use crate::show::show_marked;
 use crate::status::Status;
 use pcrlock_line::Stop;
-use pcrlock_words::{split_line, status_line};
+use pcrlock_words::split_line;
 use pl_base::{Entropy, Files, Name, Sink};
 use std::alloc::Global;
 use tpm_device::Tpm;
 
-/// Writes the mark of a line of this status.
-fn mark<O: Sink>(alloc: Global, status: Status, out: &mut O) -> Result<(), Stop>
-    ensures causes { HasCauses (0, 0, 0, O.faults out.old) (0, 0, 0, O.faults out.new) result }
-    ensures told { (before : Sequence ℕ) → O.written out.old ≡ Some before → OnOk result (O.written out.new ≡ Some (before ++ status_text (number_of status))) }
-{
-    let text = status_line(alloc, status.number())?;
-    write(alloc, out, text.as_slice())
-}
-
 /// Runs a line of these words, and writes what it says and its mark.
 fn marked_line<F: Files, T: Tpm, E: Entropy, O: Sink, R: Sink>(
     alloc: Global,
+    state: &Name,
     words: &[Name],
     policy: &Name,
     files: &mut F,
@@ -39,20 +31,21 @@ fn marked_line<F: Files, T: Tpm, E: Entropy, O: Sink, R: Sink>(
     err: &mut R,
 ) -> Result<Status, Stop>
     ensures causes { HasCauses (F.faults files.old, E.faults entropy.old, T.faults tpm.old, O.faults out.old) (F.faults files.new, E.faults entropy.new, T.faults tpm.new, O.faults out.new) result }
-    ensures told { (m : Machine) (before : Sequence ℕ) → Tells (F.held files.old) (T.stored tpm.old) (E.words entropy.old) m → O.written out.old ≡ Some before
-        → Safe (line_outcome words.now policy.now m).hashed
-        → IfOk result (λ status. Leaves (F.held files.new) (T.stored tpm.new) (E.words entropy.new) (O.written out.new) before (number_of status) (marked (line_outcome words.now policy.now m))) }
+    ensures told { (m : Machine) → Tells (F.held files.old) (T.stored tpm.old) (E.words entropy.old) m → Safe (marked m (line_outcome state.now words.now policy.now m)).hashed
+        → IfOk result (λ status. Leaves (F.held files.new) (T.stored tpm.new) (E.words entropy.new) (O.written out.old) (O.written out.new) (R.faults err.old) (R.written err.old) (R.faults err.new) (R.written err.new) (number_of status) (marked m (line_outcome state.now words.now policy.now m))) }
+    ensures stops { (m : Machine) → Tells (F.held files.old) (T.stored tpm.old) (E.words entropy.old) m → Safe (marked m (line_outcome state.now words.now policy.now m)).hashed
+        → IfErr result (λ _. StandsAmong (F.held files.new) (T.stored tpm.new) (marked m (line_outcome state.now words.now policy.now m)).stops) }
 {
-    let reply = line(alloc, words, policy, files, tpm, entropy)?;
-    let status = Status::of_reply(&reply);
-    show(alloc, &reply, out, err)?;
-    mark(alloc, status, out)?;
-    Ok(status)
+    match line(alloc, state, words, policy, files, tpm, entropy) {
+        Ok(reply) => show_marked(alloc, &reply, out, err),
+        Err(stop) => Err(stop),
+    }
 }
 
 /// Runs a line of a script behind one of this status, unless it is passed over.
 fn step<F: Files, T: Tpm, E: Entropy, O: Sink, R: Sink>(
     alloc: Global,
+    state: &Name,
     text: &str,
     status: Status,
     policy: &Name,
@@ -63,16 +56,20 @@ fn step<F: Files, T: Tpm, E: Entropy, O: Sink, R: Sink>(
     err: &mut R,
 ) -> Result<Status, Stop>
     ensures causes { HasCauses (F.faults files.old, E.faults entropy.old, T.faults tpm.old, O.faults out.old) (F.faults files.new, E.faults entropy.new, T.faults tpm.new, O.faults out.new) result }
-    ensures told { (m : Machine) (before : Sequence ℕ) → Tells (F.held files.old) (T.stored tpm.old) (E.words entropy.old) m → O.written out.old ≡ Some before
-        → Safe (script_from policy.now (lines_among (text.now ∷ [])) (number_of status) m).hashed
-        → IfOk result (λ next. Leaves (F.held files.new) (T.stored tpm.new) (E.words entropy.new) (O.written out.new) before (number_of next) (script_from policy.now (lines_among (text.now ∷ [])) (number_of status) m)) }
+    ensures told { (m : Machine) → Tells (F.held files.old) (T.stored tpm.old) (E.words entropy.old) m → Safe (script_from state.now policy.now (lines_among (text.now ∷ [])) (number_of status) m).hashed
+        → IfOk result (λ status. Leaves (F.held files.new) (T.stored tpm.new) (E.words entropy.new) (O.written out.old) (O.written out.new) (R.faults err.old) (R.written err.old) (R.faults err.new) (R.written err.new) (number_of status) (script_from state.now policy.now (lines_among (text.now ∷ [])) (number_of status) m)) }
+    ensures stops { (m : Machine) → Tells (F.held files.old) (T.stored tpm.old) (E.words entropy.old) m → Safe (script_from state.now policy.now (lines_among (text.now ∷ [])) (number_of status) m).hashed
+        → IfErr result (λ _. StandsAmong (F.held files.new) (T.stored tpm.new) (script_from state.now policy.now (lines_among (text.now ∷ [])) (number_of status) m).stops) }
 {
-    let words = split_line(alloc, text)?;
+    let Ok(words) = split_line(alloc, text) else {
+        return Err(Stop::Memory);
+    };
     if is_passed_over(words.as_slice()) {
         return Ok(status);
     }
     marked_line(
         alloc,
+        state,
         words.as_slice(),
         policy,
         files,
@@ -86,6 +83,7 @@ fn step<F: Files, T: Tpm, E: Entropy, O: Sink, R: Sink>(
 /// Runs the lines of a script, under its policy path.
 pub fn script<F: Files, T: Tpm, E: Entropy, O: Sink, R: Sink>(
     alloc: Global,
+    state: &Name,
     text: &str,
     policy: &Name,
     files: &mut F,
@@ -95,15 +93,21 @@ pub fn script<F: Files, T: Tpm, E: Entropy, O: Sink, R: Sink>(
     err: &mut R,
 ) -> Result<Status, Stop>
     ensures causes { HasCauses (F.faults files.old, E.faults entropy.old, T.faults tpm.old, O.faults out.old) (F.faults files.new, E.faults entropy.new, T.faults tpm.new, O.faults out.new) result }
-    ensures told { (m : Machine) (before : Sequence ℕ) → Tells (F.held files.old) (T.stored tpm.old) (E.words entropy.old) m → O.written out.old ≡ Some before
-        → Safe (whole_script (lines_of text.now) policy.now m).hashed
-        → IfOk result (λ status. Leaves (F.held files.new) (T.stored tpm.new) (E.words entropy.new) (O.written out.new) before (number_of status) (whole_script (lines_of text.now) policy.now m)) }
+    ensures told { (m : Machine) → Tells (F.held files.old) (T.stored tpm.old) (E.words entropy.old) m → Safe (whole_script state.now (lines_of text.now) policy.now m).hashed
+        → IfOk result (λ status. Leaves (F.held files.new) (T.stored tpm.new) (E.words entropy.new) (O.written out.old) (O.written out.new) (R.faults err.old) (R.written err.old) (R.faults err.new) (R.written err.new) (number_of status) (whole_script state.now (lines_of text.now) policy.now m)) }
+    ensures stops { (m : Machine) → Tells (F.held files.old) (T.stored tpm.old) (E.words entropy.old) m → Safe (whole_script state.now (lines_of text.now) policy.now m).hashed
+        → IfErr result (λ _. StandsAmong (F.held files.new) (T.stored tpm.new) (whole_script state.now (lines_of text.now) policy.now m).stops) }
 {
     let mut rest = text;
     let mut status = Status::Fine;
     'lines: while !rest.is_empty() {
         let (first, behind) = next_line(rest);
-        status = step(alloc, first, status, policy, files, tpm, entropy, out, err)?;
+        match step(
+            alloc, state, first, status, policy, files, tpm, entropy, out, err,
+        ) {
+            Ok(next) => status = next,
+            Err(stop) => return Err(stop),
+        }
         rest = behind;
     }
     Ok(status)

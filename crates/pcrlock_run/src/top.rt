@@ -1,18 +1,24 @@
 //! The top call.
-ghost use Rattle.std.specs.Prelude.{◌≡◌, ◌≢◌, ◌⊎◌, ◌≤◌, ◌++◌, ℕ, Some, Option, None, List as Sequence, IfOk};
+ghost use Rattle.std.specs.Prelude.{◌≡◌, ◌≢◌, ◌⊎◌, ◌≤◌, ℕ, Some, Option, None, IfOk, IfErr};
 ghost use Rattle.pl_base.specs.Faults.{Rose};
 ghost use Rattle.pcrlock_line.specs.Machine.{Machine, Tells};
 ghost use Rattle.pcrlock_line.specs.Causes.{HasCauses};
-ghost use Rattle.pcrlock_line.specs.Outcome.{ending_of};
-ghost use Rattle.pcrlock_run.specs.Status.{number_of, stop_number as number_of_stop, refusal_status, status_of, out_of};
-ghost use Rattle.pcrlock_run.specs.Script.{command_line, refused};
-ghost use Rattle.pcrlock_run.specs.Whole.{alone, script_of_text, script_of_bytes, run_script as script_run, run_request as request_run, run_line};
-ghost use Rattle.pcrlock_run.specs.Leaves.{Safe, Leaves};
+ghost use Rattle.pcrlock_run.specs.Status.{number_of, stop_number as number_of_stop};
+ghost use Rattle.tpm_model.specs.World.{World};
+ghost use Rattle.pcrlock_words.specs.Requests.{request_of};
+ghost use Rattle.pcrlock_line.specs.Content.{content_found};
+ghost use Rattle.pcrlock_line.specs.Stopped.{StandsAt, StandsAmong};
+ghost use Rattle.pcrlock_line.specs.Worlds.{IsTied};
+ghost use Rattle.pcrlock_run.specs.Script.{command_line};
+ghost use Rattle.pcrlock_run.specs.Whole.{alone, script_of_text, script_of_bytes, script_of_content, run_script as script_run, run_request as request_run, run_spelled as spelled_run, run_line};
+ghost use Rattle.pcrlock_run.specs.Leaves.{Safe, Leaves, IsNoScript};
+ghost use Rattle.pcrlock_run.specs.Worlds.{run_world};
+ghost use Rattle.pcrlock_run.specs.Headline.{RunIsExact};
 
 use crate::command::command;
 use crate::next::line_count;
 use crate::script::script;
-use crate::show::{show, tell};
+use crate::show::{refuse, show_alone, tell};
 use crate::status::{Status, stop_number};
 use pcrlock_line::{Found, Stop, read_file};
 use pcrlock_words::{Answer, Place, Request, WordsError, read_words};
@@ -27,17 +33,46 @@ const SCRIPT_BYTES: u64 = 4_194_304;
 /// The most lines of a script.
 const SCRIPT_LINES: usize = 65_536;
 
-/// Tells the answer of a command that didn't do its work.
-fn refuse<R: Sink>(alloc: Global, answer: &Answer, err: &mut R) -> Result<Status, Memory>
-    ensures { IfOk result (λ status. number_of status ≡ refusal_status answer.now) }
+/// An answer for a number over the limit of what is counted under the name.
+fn limit(alloc: Global, kind: &str, number: u64) -> Result<Answer, Stop>
+    ensures told { IfOk result (λ answer. answer ≡ Answer.Limit kind.now number) }
+    ensures cause { IfErr result (λ stop. stop ≡ Stop.Memory) }
 {
-    tell(alloc, err, answer)?;
-    Ok(Status::of_answer(answer))
+    match Name::from_text(alloc, kind) {
+        Ok(kind) => Ok(Answer::Limit { kind, number }),
+        Err(_) => Err(Stop::Memory),
+    }
+}
+
+/// The answer for a script that is malformed from the place on.
+fn malformed(alloc: Global, file: &Name, place: u64) -> Result<Answer, Stop>
+    ensures told { IfOk result (λ answer. answer ≡ Answer.Malformed file.now (Place.At place)) }
+    ensures cause { IfErr result (λ stop. stop ≡ Stop.Memory) }
+{
+    match file.copy(alloc) {
+        Ok(path) => Ok(Answer::Malformed {
+            path,
+            place: Place::At(place),
+        }),
+        Err(_) => Err(Stop::Memory),
+    }
+}
+
+/// The answer for a script that isn't there.
+fn missing(alloc: Global, file: &Name) -> Result<Answer, Stop>
+    ensures told { IfOk result (λ answer. answer ≡ Answer.NoSuchFile file.now) }
+    ensures cause { IfErr result (λ stop. stop ≡ Stop.Memory) }
+{
+    match file.copy(alloc) {
+        Ok(path) => Ok(Answer::NoSuchFile(path)),
+        Err(_) => Err(Stop::Memory),
+    }
 }
 
 /// Runs the command of a request that is no script.
 fn run_alone<F: Files, T: Tpm, E: Entropy, O: Sink, R: Sink>(
     alloc: Global,
+    state: &Name,
     request: &Request,
     files: &mut F,
     tpm: &mut T,
@@ -46,18 +81,25 @@ fn run_alone<F: Files, T: Tpm, E: Entropy, O: Sink, R: Sink>(
     err: &mut R,
 ) -> Result<Status, Stop>
     ensures causes { HasCauses (F.faults files.old, E.faults entropy.old, T.faults tpm.old, O.faults out.old) (F.faults files.new, E.faults entropy.new, T.faults tpm.new, O.faults out.new) result }
-    ensures told { (m : Machine) (before : Sequence ℕ) → Tells (F.held files.old) (T.stored tpm.old) (E.words entropy.old) m → O.written out.old ≡ Some before
-        → Safe (command_line request.now m).hashed
-        → IfOk result (λ status. Leaves (F.held files.new) (T.stored tpm.new) (E.words entropy.new) (O.written out.new) before (number_of status) (alone (command_line request.now m))) }
+    ensures told { (m : Machine) → Tells (F.held files.old) (T.stored tpm.old) (E.words entropy.old) m → Safe (alone (command_line state.now request.now m)).hashed
+        → IfOk result (λ status. Leaves (F.held files.new) (T.stored tpm.new) (E.words entropy.new) (O.written out.old) (O.written out.new) (R.faults err.old) (R.written err.old) (R.faults err.new) (R.written err.new) (number_of status) (alone (command_line state.now request.now m))) }
+    ensures stops { (m : Machine) → Tells (F.held files.old) (T.stored tpm.old) (E.words entropy.old) m → Safe (alone (command_line state.now request.now m)).hashed
+        → IfErr result (λ _. StandsAmong (F.held files.new) (T.stored tpm.new) (alone (command_line state.now request.now m)).stops) }
+    // After a fault of the output alone the command has done all its changes.
+    ensures done { (m : Machine) → Tells (F.held files.old) (T.stored tpm.old) (E.words entropy.old) m → Safe (alone (command_line state.now request.now m)).hashed
+        → IfErr result (λ stop. number_of_stop stop ≡ 5 → ¬ Rose (F.faults files.old) (F.faults files.new) → ¬ Rose (E.faults entropy.old) (E.faults entropy.new) → ¬ Rose (T.faults tpm.old) (T.faults tpm.new)
+        → StandsAt (F.held files.new) (T.stored tpm.new) (alone (command_line state.now request.now m)).after) }
 {
-    let reply = command(alloc, request, files, tpm, entropy)?;
-    show(alloc, &reply, out, err)?;
-    Ok(Status::of_reply(&reply))
+    match command(alloc, state, request, files, tpm, entropy) {
+        Ok(reply) => show_alone(alloc, &reply, out, err),
+        Err(stop) => Err(stop),
+    }
 }
 
 /// Runs the script of this text, unless it has too many lines.
 fn run_text<F: Files, T: Tpm, E: Entropy, O: Sink, R: Sink>(
     alloc: Global,
+    state: &Name,
     text: &str,
     policy: &Name,
     files: &mut F,
@@ -67,23 +109,24 @@ fn run_text<F: Files, T: Tpm, E: Entropy, O: Sink, R: Sink>(
     err: &mut R,
 ) -> Result<Status, Stop>
     ensures causes { HasCauses (F.faults files.old, E.faults entropy.old, T.faults tpm.old, O.faults out.old) (F.faults files.new, E.faults entropy.new, T.faults tpm.new, O.faults out.new) result }
-    ensures told { (m : Machine) (before : Sequence ℕ) → Tells (F.held files.old) (T.stored tpm.old) (E.words entropy.old) m → O.written out.old ≡ Some before
-        → Safe (script_of_text policy.now text.now m).hashed
-        → IfOk result (λ status. Leaves (F.held files.new) (T.stored tpm.new) (E.words entropy.new) (O.written out.new) before (number_of status) (script_of_text policy.now text.now m)) }
+    ensures told { (m : Machine) → Tells (F.held files.old) (T.stored tpm.old) (E.words entropy.old) m → Safe (script_of_text state.now policy.now text.now m).hashed
+        → IfOk result (λ status. Leaves (F.held files.new) (T.stored tpm.new) (E.words entropy.new) (O.written out.old) (O.written out.new) (R.faults err.old) (R.written err.old) (R.faults err.new) (R.written err.new) (number_of status) (script_of_text state.now policy.now text.now m)) }
+    ensures stops { (m : Machine) → Tells (F.held files.old) (T.stored tpm.old) (E.words entropy.old) m → Safe (script_of_text state.now policy.now text.now m).hashed
+        → IfErr result (λ _. StandsAmong (F.held files.new) (T.stored tpm.new) (script_of_text state.now policy.now text.now m).stops) }
 {
     if line_count(text.as_bytes()) > SCRIPT_LINES {
-        let answer = Answer::Limit {
-            kind: Name::from_text(alloc, "lines")?,
-            number: 65_537,
+        return match limit(alloc, "lines", 65_537) {
+            Ok(answer) => refuse(alloc, &answer, err),
+            Err(stop) => Err(stop),
         };
-        return Ok(refuse(alloc, &answer, err)?);
     }
-    script(alloc, text, policy, files, tpm, entropy, out, err)
+    script(alloc, state, text, policy, files, tpm, entropy, out, err)
 }
 
 /// Runs the script of these bytes, which stand in the file, unless they are no UTF-8.
 fn run_bytes<F: Files, T: Tpm, E: Entropy, O: Sink, R: Sink>(
     alloc: Global,
+    state: &Name,
     file: &Name,
     policy: &Name,
     bytes: &[u8],
@@ -94,27 +137,27 @@ fn run_bytes<F: Files, T: Tpm, E: Entropy, O: Sink, R: Sink>(
     err: &mut R,
 ) -> Result<Status, Stop>
     ensures causes { HasCauses (F.faults files.old, E.faults entropy.old, T.faults tpm.old, O.faults out.old) (F.faults files.new, E.faults entropy.new, T.faults tpm.new, O.faults out.new) result }
-    ensures told { (m : Machine) (before : Sequence ℕ) → Tells (F.held files.old) (T.stored tpm.old) (E.words entropy.old) m → O.written out.old ≡ Some before
-        → Safe (script_of_bytes file.now policy.now bytes.now m).hashed
-        → IfOk result (λ status. Leaves (F.held files.new) (T.stored tpm.new) (E.words entropy.new) (O.written out.new) before (number_of status) (script_of_bytes file.now policy.now bytes.now m)) }
+    ensures told { (m : Machine) → Tells (F.held files.old) (T.stored tpm.old) (E.words entropy.old) m → Safe (script_of_bytes state.now file.now policy.now bytes.now m).hashed
+        → IfOk result (λ status. Leaves (F.held files.new) (T.stored tpm.new) (E.words entropy.new) (O.written out.old) (O.written out.new) (R.faults err.old) (R.written err.old) (R.faults err.new) (R.written err.new) (number_of status) (script_of_bytes state.now file.now policy.now bytes.now m)) }
+    ensures stops { (m : Machine) → Tells (F.held files.old) (T.stored tpm.old) (E.words entropy.old) m → Safe (script_of_bytes state.now file.now policy.now bytes.now m).hashed
+        → IfErr result (λ _. StandsAmong (F.held files.new) (T.stored tpm.new) (script_of_bytes state.now file.now policy.now bytes.now m).stops) }
 {
     match str::from_utf8(bytes) {
-        Ok(text) => run_text(alloc, text, policy, files, tpm, entropy, out, err),
-        Err(error) => {
-            let answer = Answer::Malformed {
-                path: file.copy(alloc)?,
-                place: Place::At(error.valid_up_to() as u64),
-            };
-            Ok(refuse(alloc, &answer, err)?)
-        }
+        Ok(text) => run_text(alloc, state, text, policy, files, tpm, entropy, out, err),
+        Err(error) => match malformed(alloc, file, error.valid_up_to() as u64) {
+            Ok(answer) => refuse(alloc, &answer, err),
+            Err(stop) => Err(stop),
+        },
     }
 }
 
-/// Runs the script in a file.
-fn run_script<F: Files, T: Tpm, E: Entropy, O: Sink, R: Sink>(
+/// Runs the script that was found in a file.
+fn run_found<F: Files, T: Tpm, E: Entropy, O: Sink, R: Sink>(
     alloc: Global,
+    state: &Name,
     file: &Name,
     policy: &Name,
+    found: &Found,
     files: &mut F,
     tpm: &mut T,
     entropy: &mut E,
@@ -122,24 +165,23 @@ fn run_script<F: Files, T: Tpm, E: Entropy, O: Sink, R: Sink>(
     err: &mut R,
 ) -> Result<Status, Stop>
     ensures causes { HasCauses (F.faults files.old, E.faults entropy.old, T.faults tpm.old, O.faults out.old) (F.faults files.new, E.faults entropy.new, T.faults tpm.new, O.faults out.new) result }
-    ensures told { (m : Machine) (before : Sequence ℕ) → Tells (F.held files.old) (T.stored tpm.old) (E.words entropy.old) m → O.written out.old ≡ Some before
-        → Safe (script_run file.now policy.now m).hashed
-        → IfOk result (λ status. Leaves (F.held files.new) (T.stored tpm.new) (E.words entropy.new) (O.written out.new) before (number_of status) (script_run file.now policy.now m)) }
+    ensures told { (m : Machine) → Tells (F.held files.old) (T.stored tpm.old) (E.words entropy.old) m → Safe (script_of_content state.now file.now policy.now (content_found found.now) m).hashed
+        → IfOk result (λ status. Leaves (F.held files.new) (T.stored tpm.new) (E.words entropy.new) (O.written out.old) (O.written out.new) (R.faults err.old) (R.written err.old) (R.faults err.new) (R.written err.new) (number_of status) (script_of_content state.now file.now policy.now (content_found found.now) m)) }
+    ensures stops { (m : Machine) → Tells (F.held files.old) (T.stored tpm.old) (E.words entropy.old) m → Safe (script_of_content state.now file.now policy.now (content_found found.now) m).hashed
+        → IfErr result (λ _. StandsAmong (F.held files.new) (T.stored tpm.new) (script_of_content state.now file.now policy.now (content_found found.now) m).stops) }
 {
-    match read_file(alloc, files, file.text(), SCRIPT_BYTES)? {
-        Found::Missing => {
-            let answer = Answer::NoSuchFile(file.copy(alloc)?);
-            Ok(refuse(alloc, &answer, err)?)
-        }
-        Found::TooLarge(size) => {
-            let answer = Answer::Limit {
-                kind: Name::from_text(alloc, "script-bytes")?,
-                number: size,
-            };
-            Ok(refuse(alloc, &answer, err)?)
-        }
+    match found {
+        Found::Missing => match missing(alloc, file) {
+            Ok(answer) => refuse(alloc, &answer, err),
+            Err(stop) => Err(stop),
+        },
+        Found::TooLarge(size) => match limit(alloc, "script-bytes", *size) {
+            Ok(answer) => refuse(alloc, &answer, err),
+            Err(stop) => Err(stop),
+        },
         Found::Bytes(bytes) => run_bytes(
             alloc,
+            state,
             file,
             policy,
             bytes.as_slice(),
@@ -152,9 +194,36 @@ fn run_script<F: Files, T: Tpm, E: Entropy, O: Sink, R: Sink>(
     }
 }
 
+/// Runs the script in a file.
+fn run_script<F: Files, T: Tpm, E: Entropy, O: Sink, R: Sink>(
+    alloc: Global,
+    state: &Name,
+    file: &Name,
+    policy: &Name,
+    files: &mut F,
+    tpm: &mut T,
+    entropy: &mut E,
+    out: &mut O,
+    err: &mut R,
+) -> Result<Status, Stop>
+    ensures causes { HasCauses (F.faults files.old, E.faults entropy.old, T.faults tpm.old, O.faults out.old) (F.faults files.new, E.faults entropy.new, T.faults tpm.new, O.faults out.new) result }
+    ensures told { (m : Machine) → Tells (F.held files.old) (T.stored tpm.old) (E.words entropy.old) m → Safe (script_run state.now file.now policy.now m).hashed
+        → IfOk result (λ status. Leaves (F.held files.new) (T.stored tpm.new) (E.words entropy.new) (O.written out.old) (O.written out.new) (R.faults err.old) (R.written err.old) (R.faults err.new) (R.written err.new) (number_of status) (script_run state.now file.now policy.now m)) }
+    ensures stops { (m : Machine) → Tells (F.held files.old) (T.stored tpm.old) (E.words entropy.old) m → Safe (script_run state.now file.now policy.now m).hashed
+        → IfErr result (λ _. StandsAmong (F.held files.new) (T.stored tpm.new) (script_run state.now file.now policy.now m).stops) }
+{
+    match read_file(alloc, files, file.text(), SCRIPT_BYTES) {
+        Ok(found) => run_found(
+            alloc, state, file, policy, &found, files, tpm, entropy, out, err,
+        ),
+        Err(stop) => Err(stop),
+    }
+}
+
 /// Runs a request.
 fn run_request<F: Files, T: Tpm, E: Entropy, O: Sink, R: Sink>(
     alloc: Global,
+    state: &Name,
     request: &Request,
     files: &mut F,
     tpm: &mut T,
@@ -163,17 +232,48 @@ fn run_request<F: Files, T: Tpm, E: Entropy, O: Sink, R: Sink>(
     err: &mut R,
 ) -> Result<Status, Stop>
     ensures causes { HasCauses (F.faults files.old, E.faults entropy.old, T.faults tpm.old, O.faults out.old) (F.faults files.new, E.faults entropy.new, T.faults tpm.new, O.faults out.new) result }
-    ensures told { (m : Machine) (before : Sequence ℕ) → Tells (F.held files.old) (T.stored tpm.old) (E.words entropy.old) m → O.written out.old ≡ Some before
-        → Safe (request_run request.now m).hashed
-        → IfOk result (λ status. Leaves (F.held files.new) (T.stored tpm.new) (E.words entropy.new) (O.written out.new) before (number_of status) (request_run request.now m)) }
+    ensures told { (m : Machine) → Tells (F.held files.old) (T.stored tpm.old) (E.words entropy.old) m → Safe (request_run state.now request.now m).hashed
+        → IfOk result (λ status. Leaves (F.held files.new) (T.stored tpm.new) (E.words entropy.new) (O.written out.old) (O.written out.new) (R.faults err.old) (R.written err.old) (R.faults err.new) (R.written err.new) (number_of status) (request_run state.now request.now m)) }
+    ensures stops { (m : Machine) → Tells (F.held files.old) (T.stored tpm.old) (E.words entropy.old) m → Safe (request_run state.now request.now m).hashed
+        → IfErr result (λ _. StandsAmong (F.held files.new) (T.stored tpm.new) (request_run state.now request.now m).stops) }
+    ensures done { (m : Machine) → Tells (F.held files.old) (T.stored tpm.old) (E.words entropy.old) m → Safe (request_run state.now request.now m).hashed → IsNoScript (Some request.now)
+        → IfErr result (λ stop. number_of_stop stop ≡ 5 → ¬ Rose (F.faults files.old) (F.faults files.new) → ¬ Rose (E.faults entropy.old) (E.faults entropy.new) → ¬ Rose (T.faults tpm.old) (T.faults tpm.new)
+        → StandsAt (F.held files.new) (T.stored tpm.new) (request_run state.now request.now m).after) }
 {
     match request {
         Request::Script { file, policy, .. } => {
-            run_script(alloc, file, policy, files, tpm, entropy, out, err)
+            run_script(alloc, state, file, policy, files, tpm, entropy, out, err)
         }
         Request::Enroll { .. } | Request::Unseal { .. } | Request::TpmExtend { .. } => {
-            run_alone(alloc, request, files, tpm, entropy, out, err)
+            run_alone(alloc, state, request, files, tpm, entropy, out, err)
         }
+    }
+}
+
+/// Runs words behind the path of the TPM's state, which is the first of them.
+fn run_spelled<F: Files, T: Tpm, E: Entropy, O: Sink, R: Sink>(
+    alloc: Global,
+    state: &Name,
+    words: &[Name],
+    files: &mut F,
+    tpm: &mut T,
+    entropy: &mut E,
+    out: &mut O,
+    err: &mut R,
+) -> Result<Status, Stop>
+    ensures causes { HasCauses (F.faults files.old, E.faults entropy.old, T.faults tpm.old, O.faults out.old) (F.faults files.new, E.faults entropy.new, T.faults tpm.new, O.faults out.new) result }
+    ensures told { (m : Machine) → Tells (F.held files.old) (T.stored tpm.old) (E.words entropy.old) m → Safe (spelled_run state.now (request_of words.now None) m).hashed
+        → IfOk result (λ status. Leaves (F.held files.new) (T.stored tpm.new) (E.words entropy.new) (O.written out.old) (O.written out.new) (R.faults err.old) (R.written err.old) (R.faults err.new) (R.written err.new) (number_of status) (spelled_run state.now (request_of words.now None) m)) }
+    ensures stops { (m : Machine) → Tells (F.held files.old) (T.stored tpm.old) (E.words entropy.old) m → Safe (spelled_run state.now (request_of words.now None) m).hashed
+        → IfErr result (λ _. StandsAmong (F.held files.new) (T.stored tpm.new) (spelled_run state.now (request_of words.now None) m).stops) }
+    ensures done { (m : Machine) → Tells (F.held files.old) (T.stored tpm.old) (E.words entropy.old) m → Safe (spelled_run state.now (request_of words.now None) m).hashed → IsNoScript (request_of words.now None)
+        → IfErr result (λ stop. number_of_stop stop ≡ 5 → ¬ Rose (F.faults files.old) (F.faults files.new) → ¬ Rose (E.faults entropy.old) (E.faults entropy.new) → ¬ Rose (T.faults tpm.old) (T.faults tpm.new)
+        → StandsAt (F.held files.new) (T.stored tpm.new) (spelled_run state.now (request_of words.now None) m).after) }
+{
+    match read_words(alloc, words, None) {
+        Ok(request) => run_request(alloc, state, &request, files, tpm, entropy, out, err),
+        Err(WordsError::BadWords) => refuse(alloc, &Answer::BadWords, err),
+        Err(WordsError::Memory) => Err(Stop::Memory),
     }
 }
 
@@ -189,14 +289,17 @@ fn run_words<F: Files, T: Tpm, E: Entropy, O: Sink, R: Sink>(
     err: &mut R,
 ) -> Result<Status, Stop>
     ensures causes { HasCauses (F.faults files.old, E.faults entropy.old, T.faults tpm.old, O.faults out.old) (F.faults files.new, E.faults entropy.new, T.faults tpm.new, O.faults out.new) result }
-    ensures told { (m : Machine) (before : Sequence ℕ) → Tells (F.held files.old) (T.stored tpm.old) (E.words entropy.old) m → O.written out.old ≡ Some before
-        → Safe (run_line words.now m).hashed
-        → IfOk result (λ status. Leaves (F.held files.new) (T.stored tpm.new) (E.words entropy.new) (O.written out.new) before (number_of status) (run_line words.now m)) }
+    ensures told { (m : Machine) → Tells (F.held files.old) (T.stored tpm.old) (E.words entropy.old) m → Safe (run_line words.now m).hashed
+        → IfOk result (λ status. Leaves (F.held files.new) (T.stored tpm.new) (E.words entropy.new) (O.written out.old) (O.written out.new) (R.faults err.old) (R.written err.old) (R.faults err.new) (R.written err.new) (number_of status) (run_line words.now m)) }
+    ensures stops { (m : Machine) → Tells (F.held files.old) (T.stored tpm.old) (E.words entropy.old) m → Safe (run_line words.now m).hashed
+        → IfErr result (λ _. StandsAmong (F.held files.new) (T.stored tpm.new) (run_line words.now m).stops) }
+    ensures done { (m : Machine) → Tells (F.held files.old) (T.stored tpm.old) (E.words entropy.old) m → Safe (run_line words.now m).hashed → IsNoScript (request_of words.now None)
+        → IfErr result (λ stop. number_of_stop stop ≡ 5 → ¬ Rose (F.faults files.old) (F.faults files.new) → ¬ Rose (E.faults entropy.old) (E.faults entropy.new) → ¬ Rose (T.faults tpm.old) (T.faults tpm.new)
+        → StandsAt (F.held files.new) (T.stored tpm.new) (run_line words.now m).after) }
 {
-    match read_words(alloc, words, None) {
-        Ok(request) => run_request(alloc, &request, files, tpm, entropy, out, err),
-        Err(WordsError::BadWords) => Ok(refuse(alloc, &Answer::BadWords, err)?),
-        Err(WordsError::Memory) => Err(Stop::Memory),
+    match words.first() {
+        Some(state) => run_spelled(alloc, state, words, files, tpm, entropy, out, err),
+        None => refuse(alloc, &Answer::BadWords, err),
     }
 }
 
@@ -247,9 +350,22 @@ pub fn run<F: Files, T: Tpm, E: Entropy, O: Sink, R: Sink>(
     err: &mut R,
 ) -> u8
     ensures faults { result ≡ 5 → Rose (F.faults files.old) (F.faults files.new) ⊎ (Rose (E.faults entropy.old) (E.faults entropy.new) ⊎ (Rose (T.faults tpm.old) (T.faults tpm.new) ⊎ Rose (O.faults out.old) (O.faults out.new))) }
-    ensures told { (m : Machine) (before : Sequence ℕ) → Tells (F.held files.old) (T.stored tpm.old) (E.words entropy.old) m → O.written out.old ≡ Some before
-        → Safe (run_line words.now m).hashed → result ≢ 5 → result ≢ 6
-        → Leaves (F.held files.new) (T.stored tpm.new) (E.words entropy.new) (O.written out.new) before result (run_line words.now m) }
+    // The bytes on both outputs (on `err` where its count of faults didn't rise), the status, the files,
+    // the stored state and the random words left are those of the definition.
+    ensures told { (m : Machine) → Tells (F.held files.old) (T.stored tpm.old) (E.words entropy.old) m → Safe (run_line words.now m).hashed → result ≢ 5 → result ≢ 6
+        → Leaves (F.held files.new) (T.stored tpm.new) (E.words entropy.new) (O.written out.old) (O.written out.new) (R.faults err.old) (R.written err.old) (R.faults err.new) (R.written err.new) result (run_line words.now m) }
+    // After a fault or want of memory files and stored state are those after some of the changes.
+    ensures stops { (m : Machine) → Tells (F.held files.old) (T.stored tpm.old) (E.words entropy.old) m → Safe (run_line words.now m).hashed → (result ≡ 5) ⊎ (result ≡ 6)
+        → StandsAmong (F.held files.new) (T.stored tpm.new) (run_line words.now m).stops }
+    // After a fault of the output alone a command other than a script has done all its changes.
+    ensures done { (m : Machine) → Tells (F.held files.old) (T.stored tpm.old) (E.words entropy.old) m → Safe (run_line words.now m).hashed → IsNoScript (request_of words.now None) → result ≡ 5
+        → ¬ Rose (F.faults files.old) (F.faults files.new) → ¬ Rose (E.faults entropy.old) (E.faults entropy.new) → ¬ Rose (T.faults tpm.old) (T.faults tpm.new)
+        → StandsAt (F.held files.new) (T.stored tpm.new) (run_line words.now m).after }
+    // A world that is tied to the stored state is tied again, with each object that was enrolled.
+    ensures kept { (m : Machine) (w : World) → IsTied m.device w → IsTied (run_line words.now m).after.device (run_world words.now m w) }
+    // Each `unseal` prints the key of an object of the world exactly where the PCR holds the value that
+    // the key was sealed to.
+    ensures headline { (m : Machine) (w : World) → IsTied m.device w → Safe (run_world words.now m w).hashed → RunIsExact words.now m w }
     ensures bounded { result ≤ 7 }
 {
     match run_words(alloc, words, files, tpm, entropy, out, err) {

@@ -21,6 +21,7 @@ use Rattle.tpm_model.specs.Sessions.{is_object, object_at}
 use Rattle.tpm_model.specs.Rules.{AreHandles}
 use Rattle.tpm_model.specs.World.{World, BoundObject, AreHashed, sealed_world, hashed_world}
 use Rattle.tpm_model.specs.Tied.{Tied, IsHeld, IsSoundBinding}
+use Rattle.pcrlock_line.proofs.Ties.{more_hashed, tied_hashed}
 
 -- no object has a handle past those of all
 pub none_found : (first end handle : ℕ) (objects : List Object) → AreHandles first end (map (λ (x : Object). x.handle) objects) → end ≤ handle → object_at handle objects ≡ None
@@ -40,32 +41,6 @@ new_found : (objects : List Object) (more : Object) → object_at more.handle ob
 new_found objects more e =
     find-append (is_object more.handle) objects (more ∷ []) ∙ ap (λ o. option_or o (find (is_object more.handle) (more ∷ []))) e
     ∙ ap (λ b. cond b (Some more) None) (eq-eqb more.handle more.handle refl)
-
-pub more_hashed : (w : World) (more xs : List HashedString) → AreHashed w xs → AreHashed (hashed_world more w) xs
-more_hashed w more xs h = λ s k. Contains-append_left w.hashed more s (h s k)
-
-same_sound : (w : World) (more : List HashedString) (b : Binding) → IsSoundBinding w b → IsSoundBinding (hashed_world more w) b
-same_sound w more (Index handle pin) h = h
-same_sound w more (Literal hash bank pcr value) h = h
-
--- more strings leave the tie
-pub tied_hashed : (s : Parts) (w : World) (more : List HashedString) → Tied s w → Tied s (hashed_world more w)
-tied_hashed s w more t = record {
-  banks = t.banks;
-  pcrs = t.pcrs;
-  objects = λ handle bound e. let held = t.objects handle bound e in record {
-    object = held.object;
-    found = held.found;
-    secret = held.secret;
-    policy = held.policy;
-    sound = same_sound w more bound.binding held.sound;
-    strings = more_hashed w more (binding_strings bound.binding) held.strings;
-  };
-  updates = λ update k. more_hashed w more (table_strings update.table) (t.updates update k);
-  update_bindings = λ update k. more_hashed w more (bind_strings update.handle update.pin) (t.update_bindings update k);
-  pins = λ pin k. more_hashed w more (pin_strings pin) (t.pins pin k);
-  strange = λ pin k. more_hashed w more (pin_strings pin) (t.strange pin k);
-}
 
 -- a state with one more object, whose handle is past those of all
 abbrev pub with_object : Object → Parts → Parts

@@ -22,10 +22,10 @@ use Rattle.pcrlock_words.specs.declared.answer.Answer.TheVariants as said
 use Rattle.pcrlock_line.specs.Outcome.{Outcome, Fine, refused_line}
 use Rattle.pcrlock_line.specs.Machine.{Machine, Live, Tells, machine}
 use Rattle.pcrlock_line.specs.Stopped.{StandsAt, StandsAmong, Same}
-use Rattle.tpm_model.specs.Binding.{Binding, Index, Literal}
-use Rattle.tpm_model.specs.Sessions.{object_at}
-use Rattle.tpm_model.specs.World.{World, extended_world}
-use Rattle.tpm_model.specs.Tied.{Tied, IsHeld, IsSoundBinding}
+use Rattle.tpm_model.specs.World.{World}
+use Rattle.tpm_model.specs.Tied.{Tied}
+use Rattle.pcrlock_line.proofs.Ties.{follows}
+use Rattle.pcrlock_line.specs.Worlds.{HasObjectOrder}
 use Rattle.pcrlock_tpm.specs.Extend.{state_after, extend_world, extended_line, extended_parts, extended_machine}
 
 -- the digests are the hashes of the bytes
@@ -75,29 +75,6 @@ same_objects : (s : Parts) (pcr : ℕ) (bytes : List ℕ) (last : Bool) → (con
 same_objects s pcr bytes true = refl
 same_objects s pcr bytes false = refl
 
--- a world that follows a state with the same objects stays tied
-pub follows : (s t : Parts) (w : World) → t.objects ≡ s.objects → Tied s w → Tied t (extended_world t w)
-follows s t w same tie = record {
-  banks = refl;
-  pcrs = refl;
-  objects = λ handle bound e. let held = tie.objects handle bound e in record {
-    object = held.object;
-    found = ap (object_at handle) same ∙ held.found;
-    secret = held.secret;
-    policy = held.policy;
-    sound = still_sound t w bound.binding held.sound;
-    strings = held.strings;
-  };
-  updates = tie.updates;
-  update_bindings = tie.update_bindings;
-  pins = tie.pins;
-  strange = tie.strange;
-}
-  where
-    still_sound : (t : Parts) (w : World) (b : Binding) → IsSoundBinding w b → IsSoundBinding (extended_world t w) b
-    still_sound t w (Index h pin) k = k
-    still_sound t w (Literal hash bank p value) k = k
-
 -- the world after `tpm-extend` is tied to the state that it leaves
 pub extend_tied : (s : Parts) (w : World) (pcr : ℕ) (bytes : List ℕ) → Tied s w → Tied (state_after pcr bytes s) (extend_world pcr bytes s w)
 extend_tied s w pcr bytes tie = follows s (state_after pcr bytes s) w (same_objects s pcr bytes (s.update_counter == 4294967295)) tie
@@ -115,3 +92,21 @@ first_stop held stored m s pcr bytes e at =
         (record { ending = Fine []; after = extended_machine pcr bytes (record { files = m.files; state = s; draws = m.draws }); hashed = []; stops = machine (record { files = m.files; state = s; draws = m.draws }) ∷ extended_machine pcr bytes (record { files = m.files; state = s; draws = m.draws }) ∷ [] })).stops
     by true here = inl here
     by false here = inl here
+
+-- the order of objects stays, and that state is stored afterwards
+order_by : (s : Parts) (pcr : ℕ) (bytes : List ℕ) (last : Bool) → HasObjectOrder s → HasObjectOrder (cond last s (extended_parts pcr bytes s))
+order_by s pcr bytes true h = h
+order_by s pcr bytes false h = h
+
+pub extend_order : (s : Parts) (pcr : ℕ) (bytes : List ℕ) → HasObjectOrder s → HasObjectOrder (state_after pcr bytes s)
+extend_order s pcr bytes h = order_by s pcr bytes (s.update_counter == 4294967295) h
+
+leaves_by : (m : Live) (pcr : ℕ) (bytes : List ℕ) (last : Bool)
+    → (cond {A = Outcome} last (refused_line (said.CounterEnd false) (machine m))
+    (record { ending = Fine []; after = extended_machine pcr bytes m; hashed = []; stops = machine m ∷ extended_machine pcr bytes m ∷ [] })).after.device
+    ≡ Holds (cond last m.state (extended_parts pcr bytes m.state))
+leaves_by m pcr bytes true = refl
+leaves_by m pcr bytes false = refl
+
+pub extend_leaves : (m : Live) (pcr : ℕ) (bytes : List ℕ) → (extended_line pcr bytes m).after.device ≡ Holds (state_after pcr bytes m.state)
+extend_leaves m pcr bytes = leaves_by m pcr bytes (m.state.update_counter == 4294967295)

@@ -15,9 +15,10 @@ abbrev pub invariant-lines : goal.invariant-lines
 invariant-lines g l = record {
   text : shadow (Utf8 l.rest);
   causes : HasCauses {A = Unit {0}} (g.F.Files.faults l.fn.files, g.E.Entropy.faults l.fn.entropy, g.T.Tpm.faults l.fn.tpm, g.O.Sink.faults l.fn.out) (g.F.Files.faults l.files, g.E.Entropy.faults l.entropy, g.T.Tpm.faults l.tpm, g.O.Sink.faults l.out) (Ok tt);
-  told : (m : Machine) (before : List ℕ) → Tells (g.F.Files.held l.fn.files) (g.T.Tpm.stored l.fn.tpm) (g.E.Entropy.words l.fn.entropy) m → g.O.Sink.written l.fn.out ≡ Some before
-      → Safe (script (lines_of l.fn.text) l.fn.policy m).hashed
-      → Underway (g.F.Files.held l.files) (g.T.Tpm.stored l.tpm) (g.E.Entropy.words l.entropy) (g.O.Sink.written l.out) before l.fn.policy (lines_of l.rest) (number_of l.status) (script (lines_of l.fn.text) l.fn.policy m);
+  told : (m : Machine) → Tells (g.F.Files.held l.fn.files) (g.T.Tpm.stored l.fn.tpm) (g.E.Entropy.words l.fn.entropy) m
+      → Safe (script l.fn.state (lines_of l.fn.text) l.fn.policy m).hashed
+      → Underway (g.F.Files.held l.files) (g.T.Tpm.stored l.tpm) (g.E.Entropy.words l.entropy) (g.O.Sink.written l.fn.out) (g.O.Sink.written l.out) (g.R.Sink.faults l.fn.err) (g.R.Sink.written l.fn.err) (g.R.Sink.faults l.err) (g.R.Sink.written l.err)
+      l.fn.state l.fn.policy (lines_of l.rest) (number_of l.status) (script l.fn.state (lines_of l.fn.text) l.fn.policy m);
 }
 
 abbrev pub decreases-lines : goal.decreases-lines

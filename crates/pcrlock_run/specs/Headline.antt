@@ -1,0 +1,48 @@
+-- The headline, for keys that are sealed to one value of one PCR: `unseal` prints the key of an object of
+-- the world exactly where the PCR holds the value that it was sealed to.
+use Rattle.std.specs.Prelude.{◌≡◌, ℕ, List, [], ◌∷◌, Option, None, Some}
+use Rattle.policy_file.specs.declared.token.Literal.{Literal}
+use Rattle.tpm_model.specs.World.{World}
+use Rattle.pcrlock_words.specs.declared.request.Request.{Request}
+use Rattle.pcrlock_words.specs.declared.request.Request.TheVariants as requests
+use Rattle.pcrlock_words.specs.Requests.{request_of}
+use Rattle.pcrlock_words.specs.Lines.{words_of}
+use Rattle.pcrlock_line.specs.Machine.{Machine, Live, machine}
+use Rattle.pcrlock_line.specs.Content.{content_of}
+use Rattle.pcrlock_open.specs.Headline.{IsEnrolled, OpensExactly}
+use Rattle.pcrlock_run.specs.Script.{unseal_outcome, line}
+use Rattle.pcrlock_run.specs.Whole.{script_bytes_limit}
+use Rattle.pcrlock_run.specs.Worlds.{line_world, lines_run}
+
+-- for each object of the world whose token stands at the path, while a session can be started
+abbrev pub UnsealIsExact : List ℕ → List ℕ → Machine → World → Type 0
+UnsealIsExact state token m w =
+    (live : Live) (handle : ℕ) (literal : Literal) (key : List ℕ) → m ≡ machine live → IsEnrolled live w token handle literal key
+    → OpensExactly (unseal_outcome state token m).ending key literal live
+
+-- for a command, if it is `unseal`
+abbrev pub CommandIsExact : List ℕ → Option Request → Machine → World → Type 0
+CommandIsExact state (Some (requests.Unseal token policy)) m w = UnsealIsExact state token m w
+CommandIsExact state (Some (requests.Enroll token policy key literal bank)) m w = Unit {0}
+CommandIsExact state (Some (requests.TpmExtend pcr bytes)) m w = Unit {0}
+CommandIsExact state (Some (requests.Script file policy index)) m w = Unit {0}
+CommandIsExact state None m w = Unit {0}
+
+-- for each line of a script, at the machine and the world that the lines before it leave
+abbrev pub LinesAreExact : List ℕ → List ℕ → List (List ℕ) → Machine → World → Type 0
+LinesAreExact state policy [] m w = Unit {0}
+LinesAreExact state policy (text ∷ texts) m w =
+    CommandIsExact state (request_of (words_of text) (Some policy)) m w
+    × LinesAreExact state policy texts (line state (words_of text) policy m).after (line_world state (words_of text) policy m w)
+
+-- for a whole run
+abbrev pub RequestIsExact : List ℕ → Option Request → Machine → World → Type 0
+RequestIsExact state (Some (requests.Script file policy index)) m w = LinesAreExact state policy (lines_run (content_of m.files file script_bytes_limit)) m w
+RequestIsExact state (Some (requests.Unseal token policy)) m w = UnsealIsExact state token m w
+RequestIsExact state (Some (requests.Enroll token policy key literal bank)) m w = Unit {0}
+RequestIsExact state (Some (requests.TpmExtend pcr bytes)) m w = Unit {0}
+RequestIsExact state None m w = Unit {0}
+
+unfoldable pub RunIsExact : List (List ℕ) → Machine → World → Type 0
+RunIsExact [] m w = Unit {0}
+RunIsExact (state ∷ words) m w = RequestIsExact state (request_of (state ∷ words) None) m w
