@@ -1,8 +1,8 @@
 -- What a command answers where no state is stored.
 use Rattle.std.specs.Prelude.{◌≡◌, ℕ, Bool, true, List, codes, Option, None, Some}
 use Rattle.tpm_model.specs.declared.parts.Parts.{Parts}
-use Rattle.tpm_model.specs.declared.state.StateRule.{StateRule}
-use Rattle.tpm_model.specs.declared.state.StateRule.TheVariants as rule
+use Rattle.tpm_model.specs.declared.rules.StateRule.{StateRule}
+use Rattle.tpm_model.specs.declared.rules.StateRule.TheVariants as rule
 use Rattle.tpm_device.specs.Stored.{Stored, Holds, TooLarge, Malformed, BadRule}
 use Rattle.pcrlock_words.specs.declared.answer.Answer.{Answer}
 use Rattle.pcrlock_words.specs.declared.answer.Answer.TheVariants as said

@@ -1,21 +1,16 @@
 -- The world that is tied to what a device stores.
-use Rattle.std.specs.Prelude.{ℕ, ◌+◌, List, map}
-use Rattle.tpm_model.specs.declared.object.Object.{Object}
+use Rattle.std.specs.Prelude.{◌≡◌, true}
 use Rattle.tpm_model.specs.declared.parts.Parts.{Parts}
-use Rattle.tpm_model.specs.Rules.{AreHandles}
+use Rattle.tpm_model.specs.ObjectRules.{keeps_object_order}
 use Rattle.tpm_model.specs.World.{World}
 use Rattle.tpm_model.specs.Tied.{Tied}
 use Rattle.tpm_device.specs.Stored.{Stored, Holds, TooLarge, Malformed, BadRule}
 use Rattle.pcrlock_line.specs.Machine.{Machine, Live}
 
--- the objects' handles ascend, below the next
-abbrev pub HasObjectOrder : Parts → Type 0
-HasObjectOrder s = AreHandles 0x81000000 (0x81000000 + s.next_object) (map (λ (x : Object). x.handle) s.objects)
-
 -- a state is stored, in whose order of objects the world is tied to it
 pub record IsTiedTo (s : Parts) (w : World) : Type 0 where
   pub tied : Tied s w
-  pub order : HasObjectOrder s
+  pub order : keeps_object_order s ≡ true
 
 abbrev pub IsTied : Stored → World → Type 0
 IsTied (Holds s) w = IsTiedTo s w

@@ -14,14 +14,14 @@ use Rattle.tpm_model.specs.Binding as binding
 use Rattle.tpm_model.specs.Binding.{literal_policy}
 use Rattle.tpm_model.specs.ObjectCommands.{seal, is_policy_size, object_handle}
 use Rattle.tpm_model.specs.Pcrs.{pcr_of}
-use Rattle.pcrlock_line.specs.Worlds.{HasObjectOrder}
+use Rattle.tpm_model.specs.ObjectRules.{keeps_object_order}
 use Rattle.pcrlock_line.proofs.Ties.{tied_hashed}
 use Rattle.std.proofs.lemmas.List.{map-append}
 use Rattle.std.specs.List.{Contains}
 use Rattle.std.proofs.lemmas.List.Elements.{Contains-append_left}
 use Rattle.hash_bank.specs.HashedString.{HashedString}
-use Rattle.tpm_model.specs.Rules.{AreHandles}
-use Rattle.tpm_model.proofs.Handles.{handles_push}
+use Rattle.tpm_model.specs.Handles.{are_handles}
+use Rattle.tpm_model.proofs.Handles.{handles_push, handles_from_test}
 use Rattle.tpm_model.specs.World.{World}
 use Rattle.tpm_model.specs.Tied.{Tied}
 use Rattle.tpm_device.specs.Stored.{Holds}
@@ -34,18 +34,18 @@ use Rattle.pcrlock_seal.proofs.Objects.{none_found, tied_object, tied_sealed}
 abbrev Goes : List ℕ → Literal → World → Response × Parts → Type 0
 Goes key literal w r = Tied r.1 (sealed_or (sealed_handle r.0) key literal w)
 
-accepted : (key : List ℕ) (literal : Literal) (s : Parts) (w : World) (in_range : Bool) → IsPolicyHash literal.hash → HasObjectOrder s → Tied s w
+accepted : (key : List ℕ) (literal : Literal) (s : Parts) (w : World) (in_range : Bool) → IsPolicyHash literal.hash → keeps_object_order s ≡ true → Tied s w
     → Tied (record s { next_object = s.next_object + 1; objects = s.objects ++ record { handle = object_handle s.next_object; policy = literal_policy literal.hash literal.bank literal.pcr literal.value; secret = key } ∷ [] })
     (sealed_or (cond in_range (Some (object_handle s.next_object)) None) key literal w)
 accepted key literal s w true hash rules t =
     tied_sealed s w (record { handle = object_handle s.next_object; policy = literal_policy literal.hash literal.bank literal.pcr literal.value; secret = key })
     (binding.Literal literal.hash literal.bank literal.pcr literal.value)
-    (none_found 0x81000000 (0x81000000 + s.next_object) (object_handle s.next_object) s.objects rules (omega arith)) refl hash t
+    (none_found 0x81000000 (0x81000000 + s.next_object) (object_handle s.next_object) s.objects (handles_from_test _ _ _ rules) (omega arith)) refl hash t
 accepted key literal s w false hash rules t =
     let object : Object = record { handle = object_handle s.next_object; policy = literal_policy literal.hash literal.bank literal.pcr literal.value; secret = key } in
     tied_hashed (record s { next_object = s.next_object + 1; objects = s.objects ++ object ∷ [] }) w (strings_of literal) (tied_object s w object t)
 
-goes : (key : List ℕ) (literal : Literal) (s : Parts) (w : World) → IsPolicyHash literal.hash → HasObjectOrder s → Tied s w
+goes : (key : List ℕ) (literal : Literal) (s : Parts) (w : World) → IsPolicyHash literal.hash → keeps_object_order s ≡ true → Tied s w
     → Goes key literal w (seal (literal_policy literal.hash literal.bank literal.pcr literal.value) key s)
 goes key literal s w hash rules t =
     let same : Tied s (sealed_or None key literal w) = tied_hashed s w (strings_of literal) t in
@@ -56,11 +56,11 @@ goes key literal s w hash rules t =
     accepted key literal s w (nat_le 0x81000000 (object_handle s.next_object) && nat_le (object_handle s.next_object) 0x817FFFFF) hash rules t))))
 
 -- the world after a sealed key
-key_tied : (key : List ℕ) (literal : Literal) (m : Live) (w : World) → IsPolicyHash literal.hash → HasObjectOrder m.state → Tied m.state w
+key_tied : (key : List ℕ) (literal : Literal) (m : Live) (w : World) → IsPolicyHash literal.hash → keeps_object_order m.state ≡ true → Tied m.state w
     → Tied (seal (literal_policy literal.hash literal.bank literal.pcr literal.value) key m.state).1 (key_world literal key m w)
 key_tied key literal m w hash rules t = goes key literal m.state w hash rules t
 
-drawn_tied : (literal : Literal) (key : Option (List ℕ)) (draws : List (List ℕ)) (m : Live) (w : World) → IsPolicyHash literal.hash → HasObjectOrder m.state → Tied m.state w
+drawn_tied : (literal : Literal) (key : Option (List ℕ)) (draws : List (List ℕ)) (m : Live) (w : World) → IsPolicyHash literal.hash → keeps_object_order m.state ≡ true → Tied m.state w
     → Tied (key_state literal key draws m.state) (with_key_world literal key draws m w)
 drawn_tied literal (Some key) draws m w hash rules t = key_tied key literal m w hash rules t
 drawn_tied literal None (word ∷ rest) m w hash rules t = key_tied word literal m w hash rules t
@@ -72,13 +72,13 @@ policy_bank Sha256 = inl refl
 policy_bank Sha384 = inr refl
 policy_bank Sha512 = inr refl
 
-value_tied : (pcr : ℕ) (bank : Bank) (key value : Option (List ℕ)) (m : Live) (w : World) → HasObjectOrder m.state → Tied m.state w
+value_tied : (pcr : ℕ) (bank : Bank) (key value : Option (List ℕ)) (m : Live) (w : World) → keeps_object_order m.state ≡ true → Tied m.state w
     → Tied (value_state pcr bank key value m) (value_world pcr bank key value m w)
 value_tied pcr bank key None m w rules t = t
 value_tied pcr bank key (Some value) m w rules t = drawn_tied (literal_now bank pcr value) key m.draws m w (policy_bank bank) rules t
 
 -- the world after `enroll` is tied to the state that it leaves
-pub enroll_tied : (pcr : ℕ) (bank : Bank) (key : Option (List ℕ)) (m : Live) (w : World) → HasObjectOrder m.state → Tied m.state w
+pub enroll_tied : (pcr : ℕ) (bank : Bank) (key : Option (List ℕ)) (m : Live) (w : World) → keeps_object_order m.state ≡ true → Tied m.state w
     → Tied (enroll_state pcr bank key m) (enroll_world pcr bank key m w)
 enroll_tied pcr bank key m w rules t = value_tied pcr bank key (pcr_of m.state.banks m.state.pcrs bank pcr) m w rules t
 
@@ -100,27 +100,27 @@ pub enroll_leaves : (path : List ℕ) (pcr : ℕ) (bank : Bank) (key : Option (L
 enroll_leaves path pcr bank key m = value_leaves path pcr bank key (pcr_of m.state.banks m.state.pcrs bank pcr) m
 
 -- the order of objects stays
-sealed_order : (policy key : List ℕ) (s : Parts) → HasObjectOrder s → HasObjectOrder (seal policy key s).1
+sealed_order : (policy key : List ℕ) (s : Parts) → keeps_object_order s ≡ true → keeps_object_order (seal policy key s) ≡ true.1
 sealed_order policy key s order =
-    let Ordered : Response × Parts → Type 0 = λ r. HasObjectOrder r.1 in
+    let Ordered : Response × Parts → Type 0 = λ r. keeps_object_order r. ≡ true1 in
     cond_both (length key == 0) _ _ Ordered (λ _. order) (λ _.
     cond_both (not (is_policy_size (length policy))) _ _ Ordered (λ _. order) (λ _.
     cond_both (nat_le 64 (length s.objects)) _ _ Ordered (λ _. order) (λ _.
     cond_both (nat_le 0x00800000 s.next_object) _ _ Ordered (λ _. order) (λ _.
-    subst (AreHandles 0x81000000 (0x81000000 + (s.next_object + 1))) (sym (map-append (λ (x : Object). x.handle) s.objects _))
-    (subst (λ n. AreHandles 0x81000000 n (map (λ (x : Object). x.handle) s.objects ++ object_handle s.next_object ∷ [])) (omega arith)
+    subst (λ (handles : List ℕ). are_handles 0x81000000 (0x81000000 + (s.next_object + 1)) handles ≡ true) (sym (map-append (λ (x : Object). x.handle) s.objects _))
+    (subst (λ n. are_handles 0x81000000 n (map (λ (x : Object). x.handle) s.objects ++ object_handle s.next_object ∷ []) ≡ true) (omega arith)
     (handles_push 0x81000000 (object_handle s.next_object) _ (omega arith) order))))))
 
-drawn_order : (literal : Literal) (key : Option (List ℕ)) (draws : List (List ℕ)) (s : Parts) → HasObjectOrder s → HasObjectOrder (key_state literal key draws s)
+drawn_order : (literal : Literal) (key : Option (List ℕ)) (draws : List (List ℕ)) (s : Parts) → keeps_object_order s ≡ true → keeps_object_order (key_state literal key draws s) ≡ true
 drawn_order literal (Some key) draws s order = sealed_order (literal_policy literal.hash literal.bank literal.pcr literal.value) key s order
 drawn_order literal None (word ∷ rest) s order = sealed_order (literal_policy literal.hash literal.bank literal.pcr literal.value) word s order
 drawn_order literal None [] s order = order
 
-value_order : (pcr : ℕ) (bank : Bank) (key value : Option (List ℕ)) (m : Live) → HasObjectOrder m.state → HasObjectOrder (value_state pcr bank key value m)
+value_order : (pcr : ℕ) (bank : Bank) (key value : Option (List ℕ)) (m : Live) → keeps_object_order m.state ≡ true → keeps_object_order (value_state pcr bank key value m) ≡ true
 value_order pcr bank key None m order = order
 value_order pcr bank key (Some value) m order = drawn_order (literal_now bank pcr value) key m.draws m.state order
 
-pub enroll_order : (pcr : ℕ) (bank : Bank) (key : Option (List ℕ)) (m : Live) → HasObjectOrder m.state → HasObjectOrder (enroll_state pcr bank key m)
+pub enroll_order : (pcr : ℕ) (bank : Bank) (key : Option (List ℕ)) (m : Live) → keeps_object_order m.state ≡ true → keeps_object_order (enroll_state pcr bank key m) ≡ true
 enroll_order pcr bank key m order = value_order pcr bank key (pcr_of m.state.banks m.state.pcrs bank pcr) m order
 
 -- no string is lost

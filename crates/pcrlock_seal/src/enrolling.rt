@@ -17,7 +17,7 @@ ghost use Rattle.tpm_model.specs.World.{World};
 ghost use Rattle.tpm_model.specs.Tied.{Tied};
 ghost use Rattle.pcrlock_seal.specs.EnrollWorld.{enroll_state, enroll_world};
 ghost use Rattle.pcrlock_line.specs.Stopped.{StandsAmong};
-ghost use Rattle.pcrlock_line.specs.Worlds.{HasObjectOrder};
+ghost use Rattle.tpm_model.specs.ObjectRules.{keeps_object_order};
 ghost use Rattle.std.specs.Prelude.{◌⊎◌};
 ghost use Rattle.pcrlock_line.specs.Machine.{Machine, Live, Tells, machine};
 ghost use Rattle.pcrlock_line.specs.Outcome.{Gives, ending_of};
@@ -210,7 +210,7 @@ pub fn enroll<F: Files, T: Tpm, E: Entropy>(
     ensures stops { (m : Machine) → Tells (F.held files.old) (T.stored tpm.old) (E.words entropy.old) m
         → IfErr result (λ _. StandsAmong (F.held files.new) (T.stored tpm.new) (enroll_line state.now path.now pcr bank key m).stops) }
     // A world that is tied to the state before is tied, with the object, to the state afterwards.
-    ensures tied { (m : Live) (w : World) → HasObjectOrder m.state → Tied m.state w → Tied (enroll_state pcr bank key m) (enroll_world pcr bank key m w) }
+    ensures tied { (m : Live) (w : World) → keeps_object_order m.state ≡ true → Tied m.state w → Tied (enroll_state pcr bank key m) (enroll_world pcr bank key m w) }
 {
     match ready(alloc, tpm, state) {
         Ok(None) => with_device(alloc, files, tpm, entropy, path, key, pcr, bank),

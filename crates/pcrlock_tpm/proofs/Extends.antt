@@ -25,7 +25,7 @@ use Rattle.pcrlock_line.specs.Stopped.{StandsAt, StandsAmong, Same}
 use Rattle.tpm_model.specs.World.{World}
 use Rattle.tpm_model.specs.Tied.{Tied}
 use Rattle.pcrlock_line.proofs.Ties.{follows}
-use Rattle.pcrlock_line.specs.Worlds.{HasObjectOrder}
+use Rattle.tpm_model.specs.ObjectRules.{keeps_object_order}
 use Rattle.pcrlock_tpm.specs.Extend.{state_after, extend_world, extended_line, extended_parts, extended_machine}
 
 -- the digests are the hashes of the bytes
@@ -94,11 +94,11 @@ first_stop held stored m s pcr bytes e at =
     by false here = inl here
 
 -- the order of objects stays, and that state is stored afterwards
-order_by : (s : Parts) (pcr : ℕ) (bytes : List ℕ) (last : Bool) → HasObjectOrder s → HasObjectOrder (cond last s (extended_parts pcr bytes s))
+order_by : (s : Parts) (pcr : ℕ) (bytes : List ℕ) (last : Bool) → keeps_object_order s ≡ true → keeps_object_order (cond last s (extended_parts pcr bytes s)) ≡ true
 order_by s pcr bytes true h = h
 order_by s pcr bytes false h = h
 
-pub extend_order : (s : Parts) (pcr : ℕ) (bytes : List ℕ) → HasObjectOrder s → HasObjectOrder (state_after pcr bytes s)
+pub extend_order : (s : Parts) (pcr : ℕ) (bytes : List ℕ) → keeps_object_order s ≡ true → keeps_object_order (state_after pcr bytes s) ≡ true
 extend_order s pcr bytes h = order_by s pcr bytes (s.update_counter == 4294967295) h
 
 leaves_by : (m : Live) (pcr : ℕ) (bytes : List ℕ) (last : Bool)
