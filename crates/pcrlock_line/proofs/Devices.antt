@@ -10,7 +10,8 @@ use Rattle.pcrlock_line.specs.declared.reply.Reply.TheVariants as reply
 use Rattle.pcrlock_line.specs.declared.stop.Stop.{Stop}
 use Rattle.pcrlock_line.specs.Machine.{Machine, Live, Tells, machine}
 use Rattle.pcrlock_line.specs.Outcome.{Outcome, Gives, refused_line}
-use Rattle.pcrlock_line.specs.Stopped.{IsStoredSo, Same, StandsAt, StandsAmong}
+use Rattle.pcrlock_line.specs.Stopped.{StandsAt, StandsAmong}
+use Rattle.pcrlock_line.proofs.Standing.{same_stored}
 use Rattle.pcrlock_line.specs.Begun.{state_refusal, by_device}
 
 -- no state is stored: the refusal is the outcome
@@ -39,7 +40,7 @@ told_live held stored words m s e t =
 
 -- a machine that is told stands
 pub stands : (held : Option FileMap) (stored : Option Stored) (words : Option (List (List ℕ))) (m : Machine) → Tells held stored words m → StandsAt held stored m
-stands held stored words m t = record { files = t.files; device = m.device; tells = t.state; rules = t.rules; same = Same }
+stands held stored words m t = record { files = t.files; device = m.device; tells = t.state; rules = t.rules; same = same_stored m.device }
 
 -- a device that was refused, and keeps what it stored
 pub gives_refused : (held : Option FileMap) (stored : Option Stored) (words : Option (List (List ℕ))) (path : List ℕ) (m : Machine) (work : Live → Outcome) (answer : Answer)
@@ -69,3 +70,22 @@ kept_tells held stored now words m same t = record { files = t.files; state = sa
 pub tells_begun : (held : Option FileMap) (stored now : Option Stored) (words : Option (List (List ℕ))) (m : Machine) (s : Parts) → now ≡ stored → m.device ≡ Holds s
     → Tells held stored words m → Tells held now words (machine (record { files = m.files; state = s; draws = m.draws }))
 tells_begun held stored now words m s same e t = told_live held now words m s e (kept_tells held stored now words m same t)
+
+-- what a machine stands at, its last stop among them
+pub stops_last : (held : Option FileMap) (stored : Option Stored) (path : List ℕ) (m : Machine) (work : Live → Outcome)
+    → ((s : Parts) → m.device ≡ Holds s → StandsAt held stored (work (record { files = m.files; state = s; draws = m.draws })).after → StandsAmong held stored (work (record { files = m.files; state = s; draws = m.draws })).stops)
+    → StandsAt held stored (by_device m.device path m work).after → StandsAmong held stored (by_device m.device path m work).stops
+stops_last held stored path m work h = by m.device refl
+  where
+    by : (kept : Stored) → m.device ≡ kept → StandsAt held stored (by_device kept path m work).after → StandsAmong held stored (by_device kept path m work).stops
+    by (Holds s) e at = h s e at
+    by (TooLarge size) e at = inl at
+    by (Malformed place) e at = inl at
+    by (BadRule broken) e at = inl at
+
+-- a machine that stores this state
+pub stands_live : (held : Option FileMap) (stored : Option Stored) (m : Machine) (s : Parts) → m.device ≡ Holds s → StandsAt held stored m
+    → StandsAt held stored (machine (record { files = m.files; state = s; draws = m.draws }))
+stands_live held stored m s e at =
+    let M : Stored → Machine = λ d. record { files = m.files; device = d; draws = m.draws } in
+    subst (λ d. StandsAt held stored (M d)) e at

@@ -1,5 +1,6 @@
 pub mod Refusals
 pub mod Composed
 pub mod Replaced
+pub mod Standing
 pub mod Devices
 pub mod Ties

@@ -3,7 +3,7 @@
 use Rattle.std.specs.Prelude.{◌≡◌, ◌⊎◌, List, [], ◌∷◌, Option, Some}
 use Rattle.pl_base.specs.FileMap.{FileMap}
 use Rattle.tpm_model.specs.declared.parts.Parts.{Parts}
-use Rattle.tpm_device.specs.Stored.{Stored, Holds}
+use Rattle.tpm_device.specs.Stored.{Stored, Holds, TooLarge, Malformed, BadRule}
 use Rattle.pcrlock_line.specs.Machine.{Machine, HasStoredRules}
 
 -- the states differ at most in the open sessions and the number of the next one
@@ -17,9 +17,11 @@ pub record DiffersInSessions (before now : Parts) : Type 0 where
   pub objects : now.objects ≡ before.objects
 
 -- the same is stored, but for sessions
-pub data IsStoredSo : Stored → Stored → Type 0 where
-  Same : {stored : Stored} → IsStoredSo stored stored
-  ButSessions : {before now : Parts} → DiffersInSessions before now → IsStoredSo (Holds before) (Holds now)
+abbrev pub IsStoredSo : Stored → Stored → Type 0
+IsStoredSo (Holds before) now = (s : Parts) × (now ≡ Holds s) × DiffersInSessions before s
+IsStoredSo (TooLarge size) now = now ≡ TooLarge size
+IsStoredSo (Malformed place) now = now ≡ Malformed place
+IsStoredSo (BadRule rule) now = now ≡ BadRule rule
 
 -- the objects tell the machine's files, and its stored state but for sessions
 pub record StandsAt (held : Option FileMap) (stored : Option Stored) (m : Machine) : Type 0 where

@@ -12,7 +12,8 @@ use Rattle.policy_session.specs.LiteralUnseal.{after_unseal}
 use Rattle.pcrlock_line.specs.declared.reply.Reply.{Reply}
 use Rattle.pcrlock_line.specs.declared.stop.Stop.{Stop}
 use Rattle.pcrlock_line.specs.Machine.{Machine, Live, Tells, machine}
-use Rattle.pcrlock_line.specs.Stopped.{DiffersInSessions as Differs, ButSessions, StandsAt, StandsAmong}
+use Rattle.pcrlock_line.specs.Stopped.{DiffersInSessions as Differs, StandsAt, StandsAmong}
+use Rattle.pcrlock_line.proofs.Standing.{differs_then}
 use Rattle.policy_file.specs.declared.token.Literal.{Literal}
 use Rattle.policy_file.specs.declared.error.FileError.{FileError}
 use Rattle.policy_file.specs.declared.error.FileError.TheVariants as file
@@ -21,7 +22,7 @@ use Rattle.policy_file.specs.declared.token.Token.TheVariants as token
 use Rattle.policy_file.specs.TokenReading.{token_in}
 use Rattle.pcrlock_line.specs.Content.{Content, Missing, TooLarge, Bytes, content_of}
 use Rattle.pcrlock_line.specs.Outcome.{Outcome}
-use Rattle.pcrlock_line.proofs.Devices.{stops_first}
+use Rattle.pcrlock_line.proofs.Devices.{stops_first, stops_last}
 use Rattle.pcrlock_open.specs.Unseal.{unsealed_line, token_line, content_line, unseal_line}
 
 same_parts : (s : Parts) → DiffersInSessions s s
@@ -56,7 +57,7 @@ pub stopped : (held : Option FileMap) (stored now : Option Stored) (words : Opti
     → Tells held stored words (machine m) → IfErr result (λ _. Kept m.state now) → IfErr result (λ _. StandsAmong held now (unsealed_line literal handle m).stops)
 stopped held stored now words m literal handle (Ok reply) tells h = tt
 stopped held stored now words m literal handle (Err stop) tells h =
-    inl (record { files = tells.files; device = Holds h.state; tells = h.holds; rules = h.kept.rules; same = ButSessions (differs h.kept.differs) })
+    inl (record { files = tells.files; device = Holds h.state; tells = h.holds; rules = h.kept.rules; same = (h.state, refl, differs h.kept.differs) })
 
 -- the stops of another definition of the same, over files that are as before
 pub stops_same : (held kept : Option FileMap) (now : Option Stored) (result : Result Reply Stop) (a b : Outcome) → a ≡ b → kept ≡ held
@@ -86,3 +87,30 @@ unseal_at held stored m state path (Bytes bytes) at = by (token_in bytes)
 
 pub unseal_first : (held : Option FileMap) (stored : Option Stored) (m : Machine) (state path : List ℕ) → StandsAt held stored m → StandsAmong held stored (unseal_line state path m).stops
 unseal_first held stored m state path at = unseal_at held stored m state path (content_of m.files path 256) at
+
+-- after the number of a session was used the machine stands as before
+number_used : (s : Parts) (none : Bool) → Differs s (cond none s (record s { next_session = s.next_session + 1 }))
+number_used s none = differs (next_number s none)
+
+last_stop : (held : Option FileMap) (stored : Option Stored) (m : Live) (literal : Literal) (handle : ℕ) → StandsAt held stored (unsealed_line literal handle m).after → StandsAmong held stored (unsealed_line literal handle m).stops
+last_stop held stored m literal handle at = inl (record {
+  files = at.files;
+  device = at.device;
+  tells = at.tells;
+  rules = at.rules;
+  same = (at.same.0, at.same.1, differs_then m.state (after_unseal m.state) at.same.0 (number_used m.state (nat_le 64 (length m.state.sessions) || nat_le 0x01000000 m.state.next_session)) at.same.2);
+})
+
+last_at : (held : Option FileMap) (stored : Option Stored) (m : Machine) (state path : List ℕ) (content : Content) → StandsAt held stored (content_line state path content m).after → StandsAmong held stored (content_line state path content m).stops
+last_at held stored m state path Missing at = inl at
+last_at held stored m state path (TooLarge size) at = inl at
+last_at held stored m state path (Bytes bytes) at = by (token_in bytes) at
+  where
+    by : (read : Result Token FileError) → StandsAt held stored (token_line state path read m).after → StandsAmong held stored (token_line state path read m).stops
+    by (Ok (token.Literal handle literal)) now = stops_last held stored state m (unsealed_line literal handle) (λ s e a. last_stop held stored (record { files = m.files; state = s; draws = m.draws }) literal handle a) now
+    by (Ok (token.Bound handle)) now = inl now
+    by (Err (file.Malformed place kind)) now = inl now
+    by (Err file.Memory) now = inl now
+
+pub unseal_last : (held : Option FileMap) (stored : Option Stored) (m : Machine) (state path : List ℕ) → StandsAt held stored (unseal_line state path m).after → StandsAmong held stored (unseal_line state path m).stops
+unseal_last held stored m state path at = last_at held stored m state path (content_of m.files path 256) at

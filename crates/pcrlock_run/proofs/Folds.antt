@@ -17,7 +17,7 @@ use Rattle.pcrlock_run.specs.declared.status.Status.{Status}
 use Rattle.pcrlock_words.specs.Texts.{status_text}
 use Rattle.pcrlock_run.specs.Status.{status_of, out_of, err_of}
 use Rattle.pcrlock_run.specs.Says.{Says}
-use Rattle.pcrlock_run.specs.Script.{Whole, line, line_before, at_rest, script_from}
+use Rattle.pcrlock_run.specs.Script.{Whole, line, line_before, at_rest, marked, script_from}
 use Rattle.pcrlock_run.specs.Leaves.{Safe, Leaves}
 use Rattle.pcrlock_run.proofs.Said.{says_nothing, says_then, says_same}
 use Rattle.pcrlock_run.proofs.Marks.{among_left, among_right}
@@ -37,6 +37,7 @@ pub begins_at : (held : Option FileMap) (stored : Option Stored) (state policy :
     → StandsAmong held stored (m ∷ []) → StandsAmong held stored (script_from state policy lines status m).stops
 begins_at held stored state policy [] status m h = h
 begins_at held stored state policy (text ∷ texts) status m (inl at) = inl at
+begins_at held stored state policy (text ∷ texts) status m (inr none) = absurd none
 
 both_line : (m : Machine) (o : Outcome) (whole a b : Whole) → IsBoth whole a b → IsBoth (line_before m o whole) (line_before m o a) b
 both_line m o whole a b h = record {
@@ -180,3 +181,7 @@ halts held held2 stored stored2 draws u v f x g y state policy lines first rest 
     let both : IsBoth (script_from state policy (first ++ rest) number w.middle) part (script_from state policy rest part.status part.after) = script_from-both state policy first rest number w.middle in
     w.stops held2 stored2 (both.first held2 stored2
     (does w.middle w.tells (safe_left part.hashed (script_from state policy rest part.status part.after).hashed (subst Safe both.hashed w.safe))))
+
+-- the strings of a line that stands alone
+pub safe_marked : (m : Machine) (o : Outcome) → Safe (marked m o).hashed → Safe o.hashed
+safe_marked m o h = safe_left o.hashed [] h

@@ -36,6 +36,9 @@ use Rattle.pcrlock_run.specs.Worlds.{enrolled_world, command_world, answered_wor
 -- a world with more strings
 pub hashed_tied : (kept : Stored) (w : World) (more : List HashedString) → IsTied kept w → IsTied kept (hashed_world more w)
 hashed_tied (Holds s) w more t = record { tied = tied_hashed s w more t.tied; order = t.order }
+hashed_tied (TooLarge size) w more t = absurd t
+hashed_tied (Malformed place) w more t = absurd t
+hashed_tied (BadRule rule) w more t = absurd t
 
 extend_kept : (kept : Stored) (state : List ℕ) (pcr : ℕ) (bytes : List ℕ) (m : Machine) (w : World) → IsTied kept w
     → IsTied (by_device kept state m (extended_line pcr bytes)).after.device (by_state kept m w (λ (live : Live) (v : World). extend_world pcr bytes live.state v))
@@ -43,6 +46,9 @@ extend_kept (Holds s) state pcr bytes m w t =
     let live : Live = record { files = m.files; state = s; draws = m.draws } in
     subst (λ (d : Stored). IsTied d (extend_world pcr bytes s w)) (sym (extend_leaves live pcr bytes))
     (record { tied = extend_tied s w pcr bytes t.tied; order = extend_order s pcr bytes t.order })
+extend_kept (TooLarge size) state pcr bytes m w t = absurd t
+extend_kept (Malformed place) state pcr bytes m w t = absurd t
+extend_kept (BadRule rule) state pcr bytes m w t = absurd t
 
 enroll_kept : (kept : Stored) (state token : List ℕ) (pcr : ℕ) (bank : Bank) (key : Option (List ℕ)) (m : Machine) (w : World) → IsTied kept w
     → IsTied (by_device kept state m (enrolled_line token pcr bank key)).after.device (by_state kept m w (enroll_world pcr bank key))
@@ -50,6 +56,9 @@ enroll_kept (Holds s) state token pcr bank key m w t =
     let live : Live = record { files = m.files; state = s; draws = m.draws } in
     subst (λ (d : Stored). IsTied d (enroll_world pcr bank key live w)) (sym (enroll_leaves token pcr bank key live))
     (record { tied = enroll_tied pcr bank key live w t.order t.tied; order = enroll_order pcr bank key live t.order })
+enroll_kept (TooLarge size) state token pcr bank key m w t = absurd t
+enroll_kept (Malformed place) state token pcr bank key m w t = absurd t
+enroll_kept (BadRule rule) state token pcr bank key m w t = absurd t
 
 -- the PCR's number has to be one
 if_pcr : (small : Bool) (o : Outcome) (v w : World) (m : Machine) → IsTied o.after.device v → IsTied m.device w

@@ -7,3 +7,5 @@ pub mod Commands
 pub mod Texts
 pub mod Kept
 pub mod Exact
+pub mod Lasts
+pub mod Firsts

@@ -75,3 +75,13 @@ line_stops held stored m o h = inr (among_left held stored o.stops (o.after ∷ 
 
 pub alone_done : (held : Option FileMap) (stored : Option Stored) (draws : Option (List (List ℕ))) (o : Outcome) (reply : Reply) → Gives held stored draws reply o → StandsAt held stored o.after
 alone_done held stored draws o reply gives = stands held stored draws o.after gives.tells
+
+-- a stop as a command's text is written: all its changes are done
+pub alone_stops : (held : Option FileMap) (stored : Option Stored) (o : Outcome) (result : Result Status Stop) → StandsAmong held stored o.stops → IfErr result (λ _. StandsAmong held stored (alone o).stops)
+alone_stops held stored o (Ok given) h = tt
+alone_stops held stored o (Err stop) h = h
+
+pub done_stops : (held : Option FileMap) (stored : Option Stored) (draws : Option (List (List ℕ))) (o : Outcome) (reply : Reply) (result : Result Status Stop) (P Q R : Type 0) (five : Stop → Type 0) → Gives held stored draws reply o
+    → IfErr result (λ stop. five stop → P → Q → R → StandsAt held stored (alone o).after)
+done_stops held stored draws o reply (Ok given) P Q R five gives = tt
+done_stops held stored draws o reply (Err stop) P Q R five gives = λ e p q r. alone_done held stored draws o reply gives

@@ -103,3 +103,16 @@ beside_entropy f t f2 t2 e result h = record {
   out = omega arith;
   cause = λ stop is. caused_by (f, 0, t, 0) (f2, 0, t2, 0) (f, e, t, 0) (f2, e, t2, 0) stop (λ r. r) unmoved (λ r. r) unmoved (h.cause stop is);
 }
+
+-- a step that doesn't write on the output has no fault where no other count rose
+no_cause : (f e t f2 e2 t2 : ℕ) (stop : Stop) → IsCaused (f, e, t, 0) (f2, e2, t2, 0) stop → stop_number stop ≡ 5 → ¬ Rose f f2 → ¬ Rose e e2 → ¬ Rose t t2 → ⊥
+no_cause f e t f2 e2 t2 ReadFault r five files entropy tpm = files r
+no_cause f e t f2 e2 t2 WriteFault (inl r) five files entropy tpm = files r
+no_cause f e t f2 e2 t2 WriteFault (inr r) five files entropy tpm = unmoved r
+no_cause f e t f2 e2 t2 EntropyFault r five files entropy tpm = entropy r
+no_cause f e t f2 e2 t2 TpmFault r five files entropy tpm = tpm r
+no_cause f e t f2 e2 t2 Memory r five files entropy tpm = omega (arith, five)
+
+pub no_fault : {A : Type 0} (before now : Counts) (result : Result A Stop) (stop : Stop) → HasCauses (before.0, before.1, before.2, 0) (now.0, now.1, now.2, 0) result → result ≡ Err stop → stop_number stop ≡ 5
+    → ¬ Rose before.0 now.0 → ¬ Rose before.1 now.1 → ¬ Rose before.2 now.2 → ⊥
+no_fault before now result stop h is five files entropy tpm = no_cause before.0 before.1 before.2 now.0 now.1 now.2 stop (h.cause stop is) five files entropy tpm

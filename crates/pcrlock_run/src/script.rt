@@ -57,7 +57,7 @@ fn step<F: Files, T: Tpm, E: Entropy, O: Sink, R: Sink>(
 ) -> Result<Status, Stop>
     ensures causes { HasCauses (F.faults files.old, E.faults entropy.old, T.faults tpm.old, O.faults out.old) (F.faults files.new, E.faults entropy.new, T.faults tpm.new, O.faults out.new) result }
     ensures told { (m : Machine) → Tells (F.held files.old) (T.stored tpm.old) (E.words entropy.old) m → Safe (script_from state.now policy.now (lines_among (text.now ∷ [])) (number_of status) m).hashed
-        → IfOk result (λ status. Leaves (F.held files.new) (T.stored tpm.new) (E.words entropy.new) (O.written out.old) (O.written out.new) (R.faults err.old) (R.written err.old) (R.faults err.new) (R.written err.new) (number_of status) (script_from state.now policy.now (lines_among (text.now ∷ [])) (number_of status) m)) }
+        → IfOk result (λ next. Leaves (F.held files.new) (T.stored tpm.new) (E.words entropy.new) (O.written out.old) (O.written out.new) (R.faults err.old) (R.written err.old) (R.faults err.new) (R.written err.new) (number_of next) (script_from state.now policy.now (lines_among (text.now ∷ [])) (number_of status) m)) }
     ensures stops { (m : Machine) → Tells (F.held files.old) (T.stored tpm.old) (E.words entropy.old) m → Safe (script_from state.now policy.now (lines_among (text.now ∷ [])) (number_of status) m).hashed
         → IfErr result (λ _. StandsAmong (F.held files.new) (T.stored tpm.new) (script_from state.now policy.now (lines_among (text.now ∷ [])) (number_of status) m).stops) }
 {
@@ -102,12 +102,9 @@ pub fn script<F: Files, T: Tpm, E: Entropy, O: Sink, R: Sink>(
     let mut status = Status::Fine;
     'lines: while !rest.is_empty() {
         let (first, behind) = next_line(rest);
-        match step(
+        status = step(
             alloc, state, first, status, policy, files, tpm, entropy, out, err,
-        ) {
-            Ok(next) => status = next,
-            Err(stop) => return Err(stop),
-        }
+        )?;
         rest = behind;
     }
     Ok(status)

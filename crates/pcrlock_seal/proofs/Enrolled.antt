@@ -40,7 +40,8 @@ accepted : (key : List ℕ) (literal : Literal) (s : Parts) (w : World) (in_rang
 accepted key literal s w true hash rules t =
     tied_sealed s w (record { handle = object_handle s.next_object; policy = literal_policy literal.hash literal.bank literal.pcr literal.value; secret = key })
     (binding.Literal literal.hash literal.bank literal.pcr literal.value)
-    (none_found 0x81000000 (0x81000000 + s.next_object) (object_handle s.next_object) s.objects (handles_from_test _ _ _ rules) (omega arith)) refl hash t
+    (none_found 0x81000000 (0x81000000 + s.next_object) (object_handle s.next_object) s.objects
+    (handles_from_test 0x81000000 (0x81000000 + s.next_object) (map (λ (x : Object). x.handle) s.objects) rules) (omega arith)) refl hash t
 accepted key literal s w false hash rules t =
     let object : Object = record { handle = object_handle s.next_object; policy = literal_policy literal.hash literal.bank literal.pcr literal.value; secret = key } in
     tied_hashed (record s { next_object = s.next_object + 1; objects = s.objects ++ object ∷ [] }) w (strings_of literal) (tied_object s w object t)
@@ -100,16 +101,24 @@ pub enroll_leaves : (path : List ℕ) (pcr : ℕ) (bank : Bank) (key : Option (L
 enroll_leaves path pcr bank key m = value_leaves path pcr bank key (pcr_of m.state.banks m.state.pcrs bank pcr) m
 
 -- the order of objects stays
-sealed_order : (policy key : List ℕ) (s : Parts) → keeps_object_order s ≡ true → keeps_object_order (seal policy key s) ≡ true.1
+sealed_order : (policy key : List ℕ) (s : Parts) → keeps_object_order s ≡ true → keeps_object_order (seal policy key s).1 ≡ true
 sealed_order policy key s order =
-    let Ordered : Response × Parts → Type 0 = λ r. keeps_object_order r. ≡ true1 in
+    let Ordered : Response × Parts → Type 0 = λ r. keeps_object_order r.1 ≡ true in
     cond_both (length key == 0) _ _ Ordered (λ _. order) (λ _.
     cond_both (not (is_policy_size (length policy))) _ _ Ordered (λ _. order) (λ _.
     cond_both (nat_le 64 (length s.objects)) _ _ Ordered (λ _. order) (λ _.
     cond_both (nat_le 0x00800000 s.next_object) _ _ Ordered (λ _. order) (λ _.
-    subst (λ (handles : List ℕ). are_handles 0x81000000 (0x81000000 + (s.next_object + 1)) handles ≡ true) (sym (map-append (λ (x : Object). x.handle) s.objects _))
-    (subst (λ n. are_handles 0x81000000 n (map (λ (x : Object). x.handle) s.objects ++ object_handle s.next_object ∷ []) ≡ true) (omega arith)
-    (handles_push 0x81000000 (object_handle s.next_object) _ (omega arith) order))))))
+    pushed))))
+  where
+    pushed : are_handles 0x81000000 (0x81000000 + (s.next_object + 1)) (map (λ (x : Object). x.handle) (s.objects ++ record { handle = object_handle s.next_object; policy = policy; secret = key } ∷ [])) ≡ true
+    pushed =
+        let more : map (λ (x : Object). x.handle) (s.objects ++ record { handle = object_handle s.next_object; policy = policy; secret = key } ∷ []) ≡ map (λ (x : Object). x.handle) s.objects ++ object_handle s.next_object ∷ [] =
+        map-append (λ (x : Object). x.handle) s.objects (record { handle = object_handle s.next_object; policy = policy; secret = key } ∷ []) in
+        let end : 0x81000000 + s.next_object + 1 ≡ 0x81000000 + (s.next_object + 1) = omega arith in
+        let test : are_handles 0x81000000 (object_handle s.next_object + 1) (map (λ (x : Object). x.handle) s.objects ++ object_handle s.next_object ∷ []) ≡ true =
+        handles_push 0x81000000 (object_handle s.next_object) (map (λ (x : Object). x.handle) s.objects) (omega arith) order in
+        subst (λ (hs : List ℕ). are_handles 0x81000000 (0x81000000 + (s.next_object + 1)) hs ≡ true) (sym more)
+        (subst (λ (n : ℕ). are_handles 0x81000000 n (map (λ (x : Object). x.handle) s.objects ++ object_handle s.next_object ∷ []) ≡ true) end test)
 
 drawn_order : (literal : Literal) (key : Option (List ℕ)) (draws : List (List ℕ)) (s : Parts) → keeps_object_order s ≡ true → keeps_object_order (key_state literal key draws s) ≡ true
 drawn_order literal (Some key) draws s order = sealed_order (literal_policy literal.hash literal.bank literal.pcr literal.value) key s order

@@ -18,7 +18,8 @@ use Rattle.tpm_device.specs.Stored.{Stored, Holds}
 use Rattle.pcrlock_line.specs.declared.reply.Reply.{Reply}
 use Rattle.pcrlock_line.specs.declared.stop.Stop.{Stop}
 use Rattle.pcrlock_line.specs.Machine.{Machine, Live, Tells, machine}
-use Rattle.pcrlock_line.specs.Stopped.{StandsAt, StandsAmong, Same}
+use Rattle.pcrlock_line.specs.Stopped.{StandsAt, StandsAmong}
+use Rattle.pcrlock_line.proofs.Standing.{holds_same}
 use Rattle.pcrlock_seal.specs.Enroll.{sealed_handle, sealed_machine, token_written, key_sealed, with_key, with_value, literal_now, enrolled_line}
 
 -- the machine itself stands first, and with a sealed object second
@@ -41,7 +42,7 @@ pub not_sealed : (held : Option FileMap) (stored : Option Stored) (path : List �
     → held ≡ Some m.files → stored ≡ Some (Holds s) → HasRules s
     → StandsAmong held stored (token_written path literal o response s m).stops
 not_sealed held stored path literal o response s m files kept rules =
-    token_second held stored path literal o response s m (record { files = files; device = Holds s; tells = kept; rules = rules; same = Same })
+    token_second held stored path literal o response s m (record { files = files; device = Holds s; tells = kept; rules = rules; same = holds_same s })
 
 pub not_written : (held : Option FileMap) (stored : Option Stored) (path : List ℕ) (literal : Literal) (o : Option ℕ) (handle : ℕ) (response : Response) (s : Parts) (m : Live)
     → o ≡ Some handle → stored ≡ Some (Holds s) → HasRules s
@@ -50,7 +51,7 @@ pub not_written : (held : Option FileMap) (stored : Option Stored) (path : List 
 not_written held stored path literal o handle response s m is kept rules (inl files) = not_sealed held stored path literal o response s m files kept rules
 not_written held stored path literal o handle response s m is kept rules (inr files) =
     subst (λ (x : Option ℕ). StandsAmong held stored (token_written path literal x response s m).stops) (sym is)
-    (inr (inr (inl (record { files = files; device = Holds s; tells = kept; rules = rules; same = Same }))))
+    (inr (inr (inl (record { files = files; device = Holds s; tells = kept; rules = rules; same = holds_same s }))))
 
 -- the TPM's answer is that of the definition
 pub sealed_stops : (result : Result Reply Stop) (held : Option FileMap) (stored : Option Stored) (path : List ℕ) (literal : Literal) (key policy : List ℕ) (m : Live) (response : Response)
@@ -69,7 +70,7 @@ pub seal_stops : (held : Option FileMap) (stored : Option Stored) (path : List �
     → (stored ≡ Some (Holds m.state)) ⊎ (stored ≡ Some (Holds (seal policy key m.state).1))
     → StandsAmong held stored (key_sealed path literal key m).stops
 seal_stops held stored path literal key policy m is files rules size (inl same) =
-    token_first held stored path literal _ _ _ m (record { files = files; device = Holds m.state; tells = same; rules = rules; same = Same })
+    token_first held stored path literal _ _ _ m (record { files = files; device = Holds m.state; tells = same; rules = rules; same = holds_same m.state })
 seal_stops held stored path literal key policy m is files rules size (inr next) =
     let here : StandsAmong held stored (token_written path literal (sealed_handle (seal policy key m.state).0) (seal policy key m.state).0 (seal policy key m.state).1 m).stops =
     not_sealed held stored path literal (sealed_handle (seal policy key m.state).0) (seal policy key m.state).0 (seal policy key m.state).1 m files next (keeps-seal policy key m.state size rules) in
@@ -104,4 +105,25 @@ enrolled_first held stored path pcr bank key m at = value_first held stored path
 
 -- the machine stands, told by its parts
 pub at_state : (held : Option FileMap) (stored : Option Stored) (words : Option (List (List ℕ))) (m : Live) → Tells held stored words (machine m) → StandsAt held stored (machine m)
-at_state held stored words m t = record { files = t.files; device = Holds m.state; tells = t.state; rules = t.rules; same = Same }
+at_state held stored words m t = record { files = t.files; device = Holds m.state; tells = t.state; rules = t.rules; same = holds_same m.state }
+
+-- after all changes the machine stands last
+token_last : (held : Option FileMap) (stored : Option Stored) (path : List ℕ) (literal : Literal) (o : Option ℕ) (response : Response) (s : Parts) (m : Live)
+    → StandsAt held stored (token_written path literal o response s m).after → StandsAmong held stored (token_written path literal o response s m).stops
+token_last held stored path literal (Some handle) response s m at = inr (inr (inl at))
+token_last held stored path literal None response s m at = inr (inl at)
+
+key_last : (held : Option FileMap) (stored : Option Stored) (path : List ℕ) (literal : Literal) (key : Option (List ℕ)) (draws : List (List ℕ)) (m : Live)
+    → StandsAt held stored (with_key path literal key draws m).after → StandsAmong held stored (with_key path literal key draws m).stops
+key_last held stored path literal (Some key) draws m at = token_last held stored path literal _ _ _ m at
+key_last held stored path literal None (word ∷ rest) m at = token_last held stored path literal _ _ _ (record m { draws = rest }) at
+key_last held stored path literal None [] m at = inl at
+
+value_last : (held : Option FileMap) (stored : Option Stored) (path : List ℕ) (pcr : ℕ) (bank : Bank) (key value : Option (List ℕ)) (m : Live)
+    → StandsAt held stored (with_value path pcr bank key value m).after → StandsAmong held stored (with_value path pcr bank key value m).stops
+value_last held stored path pcr bank key None m at = inl at
+value_last held stored path pcr bank key (Some value) m at = key_last held stored path (literal_now bank pcr value) key m.draws m at
+
+pub enrolled_last : (held : Option FileMap) (stored : Option Stored) (path : List ℕ) (pcr : ℕ) (bank : Bank) (key : Option (List ℕ)) (m : Live)
+    → StandsAt held stored (enrolled_line path pcr bank key m).after → StandsAmong held stored (enrolled_line path pcr bank key m).stops
+enrolled_last held stored path pcr bank key m at = value_last held stored path pcr bank key (pcr_of m.state.banks m.state.pcrs bank pcr) m at

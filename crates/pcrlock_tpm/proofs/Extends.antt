@@ -21,7 +21,8 @@ use Rattle.tpm_model.specs.declared.response.Counter.TheVariants as counter
 use Rattle.pcrlock_words.specs.declared.answer.Answer.TheVariants as said
 use Rattle.pcrlock_line.specs.Outcome.{Outcome, Fine, refused_line}
 use Rattle.pcrlock_line.specs.Machine.{Machine, Live, Tells, machine}
-use Rattle.pcrlock_line.specs.Stopped.{StandsAt, StandsAmong, Same}
+use Rattle.pcrlock_line.specs.Stopped.{StandsAt, StandsAmong}
+use Rattle.pcrlock_line.proofs.Standing.{holds_same}
 use Rattle.tpm_model.specs.World.{World}
 use Rattle.tpm_model.specs.Tied.{Tied}
 use Rattle.pcrlock_line.proofs.Ties.{follows}
@@ -54,11 +55,11 @@ stops_by : (held : Option FileMap) (now : Option Stored) (words : Option (List (
     → (now ≡ Some (Holds m.state)) ⊎ (now ≡ Some (Holds (cond last m.state (extended_parts pcr bytes m.state))))
     → StandsAmong held now (cond {A = Outcome} last (refused_line (said.CounterEnd false) (machine m))
     (record { ending = Fine []; after = extended_machine pcr bytes m; hashed = []; stops = machine m ∷ extended_machine pcr bytes m ∷ [] })).stops
-stops_by held now words m pcr bytes true files rules next (inl same) = inl (record { files = files; device = Holds m.state; tells = same; rules = rules; same = Same })
-stops_by held now words m pcr bytes true files rules next (inr same) = inl (record { files = files; device = Holds m.state; tells = same; rules = rules; same = Same })
-stops_by held now words m pcr bytes false files rules next (inl same) = inl (record { files = files; device = Holds m.state; tells = same; rules = rules; same = Same })
+stops_by held now words m pcr bytes true files rules next (inl same) = inl (record { files = files; device = Holds m.state; tells = same; rules = rules; same = holds_same m.state })
+stops_by held now words m pcr bytes true files rules next (inr same) = inl (record { files = files; device = Holds m.state; tells = same; rules = rules; same = holds_same m.state })
+stops_by held now words m pcr bytes false files rules next (inl same) = inl (record { files = files; device = Holds m.state; tells = same; rules = rules; same = holds_same m.state })
 stops_by held now words m pcr bytes false files rules next (inr same) =
-    inr (inl (record { files = files; device = Holds (extended_parts pcr bytes m.state); tells = same; rules = next; same = Same }))
+    inr (inl (record { files = files; device = Holds (extended_parts pcr bytes m.state); tells = same; rules = next; same = holds_same (extended_parts pcr bytes m.state) }))
 
 pub extend_stops : (held : Option FileMap) (stored now : Option Stored) (words : Option (List (List ℕ))) (m : Live) (pcr : ℕ) (digests : Digests) (bytes : List ℕ)
     → pcr ≤ 23 → AreHashes digests bytes → Tells held stored words (machine m)
@@ -110,3 +111,14 @@ leaves_by m pcr bytes false = refl
 
 pub extend_leaves : (m : Live) (pcr : ℕ) (bytes : List ℕ) → (extended_line pcr bytes m).after.device ≡ Holds (state_after pcr bytes m.state)
 extend_leaves m pcr bytes = leaves_by m pcr bytes (m.state.update_counter == 4294967295)
+
+-- after all changes the machine stands last
+pub last_stop : (held : Option FileMap) (stored : Option Stored) (m : Live) (pcr : ℕ) (bytes : List ℕ) → StandsAt held stored (extended_line pcr bytes m).after → StandsAmong held stored (extended_line pcr bytes m).stops
+last_stop held stored m pcr bytes = by (m.state.update_counter == 4294967295)
+  where
+    by : (last : Bool) → StandsAt held stored (cond {A = Outcome} last (refused_line (said.CounterEnd false) (machine m))
+        (record { ending = Fine []; after = extended_machine pcr bytes m; hashed = []; stops = machine m ∷ extended_machine pcr bytes m ∷ [] })).after
+        → StandsAmong held stored (cond {A = Outcome} last (refused_line (said.CounterEnd false) (machine m))
+        (record { ending = Fine []; after = extended_machine pcr bytes m; hashed = []; stops = machine m ∷ extended_machine pcr bytes m ∷ [] })).stops
+    by true at = inl at
+    by false at = inr (inl at)

@@ -1,0 +1,46 @@
+use Rattle.std.specs.Prelude.{IfOk, IfErr}
+use Rattle.pcrlock_line.specs.declared.reply.Reply.{Reply}
+use Rattle.pcrlock_line.specs.Outcome.{Outcome, Gives}
+use Rattle.pcrlock_line.specs.Stopped.{StandsAmong}
+use Rattle.pcrlock_run.specs.Leaves.{Safe}
+use Rattle.pcrlock_run.proofs.Widened.{beside_tpm, beside_entropy}
+use Rattle.pcrlock_run.proofs.Commands.{extends, enrolls, unseals, by_outcome}
+use Rattle.pcrlock_run.proofs.command.command.Goals as goal
+
+pub returns-then-pcr-le23-clause-causes : goal.returns-then-pcr-le23-clause-causes
+returns-then-pcr-le23-clause-causes g c = beside_tpm _ _ _ _ _ _ c.tpm_extend.ensures.causes
+
+pub returns-then-pcr-le23-clause-told : goal.returns-then-pcr-le23-clause-told
+returns-then-pcr-le23-clause-told g c = λ m tells safe. by_outcome _ _
+    (λ (o : Outcome). IfOk c.tpm_extend.result (λ (r : Reply). Gives (g.F.Files.held c.args.files.now) (g.T.Tpm.stored c.tpm_extend.new.tpm) (g.E.Entropy.words c.args.entropy.now) r o))
+    (extends c.args.state.now c.args.request.now c.in-TpmExtend.pcr _ c.as_slice.result.now m c.in-TpmExtend.is c.as_slice.ensures c.if-pcr-le23.true)
+    (c.tpm_extend.ensures.told _ _ m tells)
+
+pub returns-then-pcr-le23-clause-stops : goal.returns-then-pcr-le23-clause-stops
+returns-then-pcr-le23-clause-stops g c = λ m tells. by_outcome _ _
+    (λ (o : Outcome). IfErr c.tpm_extend.result (λ _. StandsAmong (g.F.Files.held c.args.files.now) (g.T.Tpm.stored c.tpm_extend.new.tpm) o.stops))
+    (extends c.args.state.now c.args.request.now c.in-TpmExtend.pcr _ c.as_slice.result.now m c.in-TpmExtend.is c.as_slice.ensures c.if-pcr-le23.true)
+    (c.tpm_extend.ensures.stops _ _ m tells)
+
+pub returns-in-Enroll-clause-told : goal.returns-in-Enroll-clause-told
+returns-in-Enroll-clause-told g c = λ m tells safe. by_outcome _ _
+    (λ (o : Outcome). IfOk c.enroll_literal.result (λ (r : Reply). Gives (g.F.Files.held c.enroll_literal.new.files) (g.T.Tpm.stored c.enroll_literal.new.tpm) (g.E.Entropy.words c.enroll_literal.new.entropy) r o))
+    (enrolls c.args.state.now c.args.request.now _ _ _ _ _ m c.in-Enroll.is) (c.enroll_literal.ensures.told m tells)
+
+pub returns-in-Enroll-clause-stops : goal.returns-in-Enroll-clause-stops
+returns-in-Enroll-clause-stops g c = λ m tells. by_outcome _ _
+    (λ (o : Outcome). IfErr c.enroll_literal.result (λ _. StandsAmong (g.F.Files.held c.enroll_literal.new.files) (g.T.Tpm.stored c.enroll_literal.new.tpm) o.stops))
+    (enrolls c.args.state.now c.args.request.now _ _ _ _ _ m c.in-Enroll.is) (c.enroll_literal.ensures.stops m tells)
+
+pub returns-in-Unseal-clause-causes : goal.returns-in-Unseal-clause-causes
+returns-in-Unseal-clause-causes g c = beside_entropy _ _ _ _ _ c.unseal_token.result c.unseal_token.ensures.causes
+
+pub returns-in-Unseal-clause-told : goal.returns-in-Unseal-clause-told
+returns-in-Unseal-clause-told g c = λ m tells. by_outcome _ _
+    (λ (o : Outcome). Safe o.hashed → IfOk c.unseal_token.result (λ (r : Reply). Gives (g.F.Files.held c.unseal_token.new.files) (g.T.Tpm.stored c.unseal_token.new.tpm) (g.E.Entropy.words c.args.entropy.now) r o))
+    (unseals c.args.state.now c.args.request.now _ _ m c.in-Unseal.is) (c.unseal_token.ensures.told _ m tells)
+
+pub returns-in-Unseal-clause-stops : goal.returns-in-Unseal-clause-stops
+returns-in-Unseal-clause-stops g c = λ m tells. by_outcome _ _
+    (λ (o : Outcome). IfErr c.unseal_token.result (λ _. StandsAmong (g.F.Files.held c.unseal_token.new.files) (g.T.Tpm.stored c.unseal_token.new.tpm) o.stops))
+    (unseals c.args.state.now c.args.request.now _ _ m c.in-Unseal.is) (c.unseal_token.ensures.stops _ m tells)

@@ -1,0 +1,25 @@
+use Rattle.std.proofs.Common.{◌∙◌, ap}
+use Rattle.pcrlock_run.proofs.Widened.{fault_cause}
+use Rattle.pcrlock_run.proofs.Kept.{run_kept}
+use Rattle.pcrlock_run.proofs.Exact.{run_exact}
+use Rattle.pcrlock_run.proofs.top.run.Goals as goal
+
+pub returns-in-Ok-clause-told : goal.returns-in-Ok-clause-told
+returns-in-Ok-clause-told g c = λ m t safe no_fault no_want.
+    let l = c.in-Ok.ensures.told m t safe in
+    record { status = c.number.ensures ∙ l.status; out = l.out; err = l.err; tells = l.tells }
+
+pub returns-in-Ok-clause-kept : goal.returns-in-Ok-clause-kept
+returns-in-Ok-clause-kept g c = λ m w t. run_kept c.args.words.now m w t
+
+pub returns-in-Ok-clause-headline : goal.returns-in-Ok-clause-headline
+returns-in-Ok-clause-headline g c = λ m w t safe. run_exact c.args.words.now m w t safe
+
+pub returns-in-Err-clause-kept : goal.returns-in-Err-clause-kept
+returns-in-Err-clause-kept g c = λ m w t. run_kept c.args.words.now m w t
+
+pub returns-in-Err-clause-headline : goal.returns-in-Err-clause-headline
+returns-in-Err-clause-headline g c = λ m w t safe. run_exact c.args.words.now m w t safe
+
+pub returns-in-Err-clause-faults : goal.returns-in-Err-clause-faults
+returns-in-Err-clause-faults g c = λ five. fault_cause _ _ c.run_words.result c.in-Err.stop c.stopped.result c.run_words.ensures.causes c.in-Err.is c.stopped.ensures five

@@ -1,0 +1,17 @@
+use Rattle.std.proofs.Common.{◌≡◌, sym}
+use Rattle.std.specs.Prelude.{None, IfErr}
+use Rattle.pl_base.specs.Faults.{Rose}
+use Rattle.pcrlock_line.specs.declared.stop.Stop.{Stop}
+use Rattle.pcrlock_line.specs.Stopped.{StandsAt}
+use Rattle.pcrlock_words.specs.Requests.{request_of}
+use Rattle.pcrlock_run.specs.Status.{stop_number}
+use Rattle.pcrlock_run.specs.Script.{Whole}
+use Rattle.pcrlock_run.proofs.Texts.{by_equal, spelled_words}
+use Rattle.pcrlock_run.proofs.top.run_words.Goals as goal
+
+pub returns-in-Some-clause-done : goal.returns-in-Some-clause-done
+returns-in-Some-clause-done g c = λ m tells safe none.
+    by_equal _ _
+    (λ (w : Whole). IfErr c.run_spelled.result (λ (stop : Stop). stop_number stop ≡ 5 → ¬ Rose (g.F.Files.faults c.args.files.now) (g.F.Files.faults c.run_spelled.new.files) → ¬ Rose (g.E.Entropy.faults c.args.entropy.now) (g.E.Entropy.faults c.run_spelled.new.entropy) → ¬ Rose (g.T.Tpm.faults c.args.tpm.now) (g.T.Tpm.faults c.run_spelled.new.tpm)
+    → StandsAt (g.F.Files.held c.run_spelled.new.files) (g.T.Tpm.stored c.run_spelled.new.tpm) w.after))
+    (spelled_words c.args.words.now c.in-Some.state.now m (sym c.in-Some.ensures.value)) (λ free. c.run_spelled.ensures.done m tells free none) safe
