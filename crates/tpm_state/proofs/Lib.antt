@@ -1,0 +1,5 @@
+pub mod Loops
+pub mod Appends
+pub mod Fields
+pub mod Repeats
+pub mod EntryLaws
