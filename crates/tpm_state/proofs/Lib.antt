@@ -2,4 +2,9 @@ pub mod Loops
 pub mod Appends
 pub mod Fields
 pub mod Repeats
+pub mod HeaderLaws
 pub mod EntryLaws
+pub mod SessionLaws
+pub mod IndexLaws
+pub mod ObjectLaws
+pub mod LayoutLaws
