@@ -199,6 +199,10 @@ flat_four_then a b c d rest = ap (λ (l : List ℕ). l ++ rest) (flat_four a b c
 map_four : (a b c d : List (List ℕ)) → map length (((a ++ b) ++ c) ++ d) ≡ ((map length a ++ map length b) ++ map length c) ++ map length d
 map_four a b c d = simp map-append
 
+four_sized : (banks : Banks) (a b c d : List (List ℕ)) → map length a ≡ sizes_if banks.sha1 20 → map length b ≡ sizes_if banks.sha256 32 → map length c ≡ sizes_if banks.sha384 48 → map length d ≡ sizes_if banks.sha512 64
+    → HasValues banks (((a ++ b) ++ c) ++ d)
+four_sized banks a b c d p q r s = map_four a b c d ∙ rw (p, q, r, s) refl
+
 pub values_takes : (all : ℕ) (banks : Banks) (bytes : List ℕ) (x : List (List ℕ) × List ℕ) → IsBytes bytes → values_at all banks bytes ≡ Ok x → Taken values_text (λ pcrs. HasValues banks pcrs) bytes x
 unfolding values_at
 values_takes all banks bytes x fits e =
@@ -212,9 +216,9 @@ values_takes all banks bytes x fits e =
     let four = ((a.more ++ b.more) ++ c.more) ++ d.more in
     let whole : x.0 ≡ four = d.whole ∙ ap (λ (l : List (List ℕ)). l ++ d.more) (c.whole ∙ ap (λ (l : List (List ℕ)). l ++ c.more) (b.whole ∙ ap (λ (l : List (List ℕ)). l ++ b.more) a.whole)) in
     let taken : Takes bytes (flat_map digest_text a.more ++ (flat_map digest_text b.more ++ (flat_map digest_text c.more ++ flat_map digest_text d.more))) x.1 = Takes-then a.takes (Takes-then b.takes (Takes-then c.takes d.takes)) in
-    let sizes : map length four ≡ sizes_of banks =
-      map_four a.more b.more c.more d.more
-      ∙ rw (sizes_from banks.sha1 20 a.more a.count a.fits, sizes_from banks.sha256 32 b.more b.count b.fits, sizes_from banks.sha384 48 c.more c.count c.fits, sizes_from banks.sha512 64 d.more d.count d.fits) refl in
+    let sizes : HasValues banks four =
+      four_sized banks a.more b.more c.more d.more (sizes_from banks.sha1 20 a.more a.count a.fits) (sizes_from banks.sha256 32 b.more b.count b.fits)
+      (sizes_from banks.sha384 48 c.more c.count c.fits) (sizes_from banks.sha512 64 d.more d.count d.fits) in
     record {
       takes = subst (λ (l : List (List ℕ)). Takes bytes (values_text l) x.1) (sym whole) (subst (λ (text : List ℕ). Takes bytes text x.1) (sym (flat_four a.more b.more c.more d.more)) taken);
       fits = subst (λ (l : List (List ℕ)). HasValues banks l) (sym whole) sizes;

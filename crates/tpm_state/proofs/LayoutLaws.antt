@@ -25,7 +25,7 @@ use Rattle.tpm_state.proofs.ObjectLaws.{object_grammar}
 -- ---- the counters and the lists
 
 record ListsTaken (version : Version) (present : Banks) (values : List (List ℕ)) (bytes : List ℕ) (x : Parts × List ℕ) : Type 0 where
-  takes : Takes bytes (counters_text (counters_of x.0) ++ lists_text version x.0) x.1
+  takes : Takes bytes (counters_text (counters_of x.0) ++ lists_text version x.0.sessions x.0.indices x.0.objects) x.1
   banks : x.0.banks ≡ present
   pcrs : x.0.pcrs ≡ values
   counters : CountersFit (counters_of x.0)
@@ -68,7 +68,7 @@ lists_takes all version byte pcrs bytes x fits e =
       objects = objects.fits;
     })
 
-lists_again : (all : ℕ) (version : Version) (s : Parts) (rest : List ℕ) → HasLayout version s → lists_at all version (banks_byte s.banks) s.pcrs ((counters_text (counters_of s) ++ lists_text version s) ++ rest) ≡ Ok (s, rest)
+lists_again : (all : ℕ) (version : Version) (s : Parts) (rest : List ℕ) → HasLayout version s → lists_at all version (banks_byte s.banks) s.pcrs ((counters_text (counters_of s) ++ lists_text version s.sessions s.indices s.objects) ++ rest) ≡ Ok (s, rest)
 unfolding lists_at
 lists_again all version s rest fits =
     let objects = counted_text (object_text version) s.objects ++ rest in
@@ -86,7 +86,7 @@ lists_again all version s rest fits =
 
 pub record LayoutTaken (bytes : List ℕ) (x : ℕ × Parts) : Type 0 where
   pub version : Version
-  pub parts : bytes ≡ magic_text version ++ ((x.0 ∷ []) ++ (values_text x.1.pcrs ++ (counters_text (counters_of x.1) ++ lists_text version x.1)))
+  pub parts : bytes ≡ magic_text version ++ ((x.0 ∷ []) ++ (values_text x.1.pcrs ++ (counters_text (counters_of x.1) ++ lists_text version x.1.sessions x.1.indices x.1.objects)))
   pub banks : x.1.banks ≡ banks_of x.0
   pub fits : HasLayout version x.1
 
@@ -111,7 +111,7 @@ layout_takes bytes x fits e =
     let fit_values : HasValues s.banks s.pcrs = subst (λ (banks : Banks). HasValues banks s.pcrs) (sym lists.banks) (subst (λ (pcrs : List (List ℕ)). HasValues (banks_of b.value.0) pcrs) (sym lists.pcrs) values.fits) in
     subst (λ (y : ℕ × Parts). LayoutTaken bytes y) (ok_is made x p.1) (record {
       version = a.value.0;
-      parts = taken.parts ∙ ap (λ (rest : List ℕ). (magic_text a.value.0 ++ ((b.value.0 ∷ []) ++ (values_text s.pcrs ++ (counters_text (counters_of s) ++ lists_text a.value.0 s)))) ++ rest) ended ∙ append-nil _;
+      parts = taken.parts ∙ ap (λ (rest : List ℕ). (magic_text a.value.0 ++ ((b.value.0 ∷ []) ++ (values_text s.pcrs ++ (counters_text (counters_of s) ++ lists_text a.value.0 s.sessions s.indices s.objects)))) ++ rest) ended ∙ append-nil _;
       banks = lists.banks;
       fits = record {
         values = fit_values;
@@ -132,13 +132,13 @@ layout_takes bytes x fits e =
 pub layout_is_text : (bytes : List ℕ) (x : ℕ × Parts) (t : LayoutTaken bytes x) → x.0 ≤ 15 → bytes ≡ text_of t.version x.1
 layout_is_text bytes x t few =
     let byte : x.0 ≡ banks_byte x.1.banks = sym (ap banks_byte t.banks ∙ byte_back x.0 few) in
-    t.parts ∙ ap (λ (n : ℕ). magic_text t.version ++ ((n ∷ []) ++ (values_text x.1.pcrs ++ (counters_text (counters_of x.1) ++ lists_text t.version x.1)))) byte
+    t.parts ∙ ap (λ (n : ℕ). magic_text t.version ++ ((n ∷ []) ++ (values_text x.1.pcrs ++ (counters_text (counters_of x.1) ++ lists_text t.version x.1.sessions x.1.indices x.1.objects)))) byte
 
 pub layout_again : (version : Version) (s : Parts) → HasLayout version s → layout_at (text_of version s) ≡ Ok (banks_byte s.banks, s)
 unfolding layout_at
 layout_again version s fits =
     let all = length (text_of version s) in
-    let lists = counters_text (counters_of s) ++ lists_text version s in
+    let lists = counters_text (counters_of s) ++ lists_text version s.sessions s.indices s.objects in
     let values = values_text s.pcrs ++ lists in
     let body = banks_byte s.banks ∷ values in
     let there : HasValues (banks_of (banks_byte s.banks)) s.pcrs = subst (λ (banks : Banks). HasValues banks s.pcrs) (sym (banks_back s.banks)) fits.values in

@@ -8,3 +8,4 @@ pub mod SessionLaws
 pub mod IndexLaws
 pub mod ObjectLaws
 pub mod LayoutLaws
+pub mod Lengths

@@ -1,7 +1,10 @@
 -- The whole of a state file: which bytes spell which parts of a state, and how they are read.
 use Rattle.std.specs.Prelude.{◌≡◌, ℕ, ◌^◌, ◌<◌, ◌≤◌, ◌==◌, if◌then◌else◌, List, [], ◌∷◌, ◌++◌, length, Result, Ok, Err}
 use Rattle.std.specs.List.{AllByRecursion}
+use Rattle.nv_index.specs.declared.index.Index.{Index}
+use Rattle.tpm_model.specs.declared.object.Object.{Object}
 use Rattle.tpm_model.specs.declared.parts.Parts.{Parts}
+use Rattle.tpm_model.specs.declared.sessions.Session.{Session}
 use Rattle.tpm_model.specs.Pcrs.{HasValues}
 use Rattle.tpm_state.specs.declared.error.DecodeError.{DecodeError}
 use Rattle.tpm_state.specs.declared.version.Version.{Version}
@@ -18,15 +21,15 @@ abbrev pub counters_of : Parts → Counters
 counters_of s = record { update_counter = s.update_counter; next_session = s.next_session; write_counter = s.write_counter; next_object = s.next_object }
 
 -- sessions, indices and objects, each kind behind its number
-abbrev pub lists_text : Version → Parts → List ℕ
-lists_text version s =
-    counted_text (session_text version) s.sessions
-    ++ (counted_text index_text s.indices ++ counted_text (object_text version) s.objects)
+abbrev pub lists_text : Version → List Session → List Index → List Object → List ℕ
+lists_text version sessions indices objects =
+    counted_text (session_text version) sessions
+    ++ (counted_text index_text indices ++ counted_text (object_text version) objects)
 
 -- what stands behind the magic
 abbrev pub body_text : Version → Parts → List ℕ
 body_text version s =
-    (banks_byte s.banks ∷ []) ++ (values_text s.pcrs ++ (counters_text (counters_of s) ++ lists_text version s))
+    (banks_byte s.banks ∷ []) ++ (values_text s.pcrs ++ (counters_text (counters_of s) ++ lists_text version s.sessions s.indices s.objects))
 
 -- the text of a state in a version
 abbrev pub text_of : Version → Parts → List ℕ

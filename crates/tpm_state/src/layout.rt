@@ -1,22 +1,20 @@
 //! The whole of a state file, but for the rules of a state.
 ghost use Rattle.std.specs.Prelude.{◌≡◌, ◌<◌, ◌≤◌, ◌^◌, ◌∷◌, [], ◌++◌, length, OnOk, IfOk};
 ghost use Rattle.tpm_state.specs.Field.{Gives};
-ghost use Rattle.tpm_state.specs.Layout.{counters_of, lists_text, body_text, text_of, lists_at, layout_at};
+ghost use Rattle.tpm_state.specs.Layout.{lists_text, lists_at, layout_at};
 
 use crate::DecodeError;
-use crate::field::{fault_at, put_digests, read_u8};
-use crate::header::{
-    Counters, put_banks, put_counters, put_magic, read_banks, read_counters, read_values,
-    read_version,
-};
+use crate::field::{fault_at, read_u8};
+use crate::header::{read_banks, read_counters, read_values, read_version};
 use crate::indices::{put_indices, read_indices};
 use crate::objects::{put_objects, read_objects};
 use crate::sessions::{put_sessions, read_sessions};
 use crate::version::Version;
 use hash_bank::Digest;
+use nv_index::Index;
 use pl_base::{List, Memory};
 use std::alloc::Global;
-use tpm_model::Parts;
+use tpm_model::{Object, Parts, Session};
 
 /// What stands behind the values, with the banks and the values that were read.
 #[tactic(auto, unfolding(crate::specs::Layout::lists_at))]
@@ -65,52 +63,20 @@ pub(crate) fn read_layout(alloc: Global, bytes: &[u8]) -> Result<(u8, Parts), De
     }
 }
 
-/// The counters among the parts.
-fn counters(parts: &Parts) -> Counters
-    ensures { result ≡ counters_of parts.now }
-{
-    Counters {
-        update_counter: parts.update_counter,
-        next_session: parts.next_session,
-        write_counter: parts.write_counter,
-        next_object: parts.next_object,
-    }
-}
-
 /// Writes the sessions, the indices and the objects.
-fn put_lists(out: &mut Vec<u8>, parts: &Parts) -> Result<(), Memory>
-    requires sessions { length parts.now.sessions ≤ 64 }
-    requires indices { length parts.now.indices ≤ 16 }
-    requires objects { length parts.now.objects ≤ 64 }
-    ensures { OnOk result (out.new.items ≡ out.old.items ++ lists_text Version.Two parts.now) }
+fn put_lists(
+    out: &mut Vec<u8>,
+    sessions: &[Session],
+    indices: &[Index],
+    objects: &[Object],
+) -> Result<(), Memory>
+    requires sessions { length sessions.now ≤ 64 }
+    requires indices { length indices.now ≤ 16 }
+    requires objects { length objects.now ≤ 64 }
+    ensures { OnOk result (out.new.items ≡ out.old.items ++ lists_text Version.Two sessions.now indices.now objects.now) }
 {
-    put_sessions(out, parts.sessions.as_slice())?;
-    put_indices(out, parts.indices.as_slice())?;
-    put_objects(out, parts.objects.as_slice())?;
+    put_sessions(out, sessions)?;
+    put_indices(out, indices)?;
+    put_objects(out, objects)?;
     Ok(())
-}
-
-/// Writes what stands behind the magic.
-fn put_body(out: &mut Vec<u8>, parts: &Parts) -> Result<(), Memory>
-    requires sessions { length parts.now.sessions ≤ 64 }
-    requires indices { length parts.now.indices ≤ 16 }
-    requires objects { length parts.now.objects ≤ 64 }
-    ensures { OnOk result (out.new.items ≡ out.old.items ++ body_text Version.Two parts.now) }
-{
-    put_banks(out, parts.banks)?;
-    put_digests(out, parts.pcrs.as_slice())?;
-    put_counters(out, counters(parts))?;
-    put_lists(out, parts)?;
-    Ok(())
-}
-
-/// Writes the parts in version 2.
-pub(crate) fn put_parts(out: &mut Vec<u8>, parts: &Parts) -> Result<(), Memory>
-    requires sessions { length parts.now.sessions ≤ 64 }
-    requires indices { length parts.now.indices ≤ 16 }
-    requires objects { length parts.now.objects ≤ 64 }
-    ensures { OnOk result (out.new.items ≡ out.old.items ++ text_of Version.Two parts.now) }
-{
-    put_magic(out)?;
-    put_body(out, parts)
 }
