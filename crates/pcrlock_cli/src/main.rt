@@ -82,7 +82,7 @@ fn run_process<O: Sink, R: Sink>(
 ) -> Result<u8, Refusal> {
     let alloc = rt.alloc();
     let words = words(rt)?;
-    let mut tpm = SoftTpm::new(State::fresh(alloc, ALL_BANKS)?, List::new(alloc));
+    let mut tpm = SoftTpm::new(State::fresh(alloc, ALL_BANKS), List::new(alloc));
     let mut files = RealFiles::new(rt);
     let mut entropy = RealEntropy::new(rt);
     Ok(run(

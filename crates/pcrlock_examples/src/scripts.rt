@@ -72,7 +72,7 @@ fn runs_scripts(rt: HostRuntime) -> Result<(), Fail> {
     for case in &CASES {
         let mut files = MemFiles::new(alloc, List::new(alloc));
         files.put("s", case.script.as_bytes())?;
-        let mut tpm = SoftTpm::new(State::fresh(alloc, ALL_BANKS)?, List::new(alloc));
+        let mut tpm = SoftTpm::new(State::fresh(alloc, ALL_BANKS), List::new(alloc));
         let mut entropy = ListEntropy::new(List::new(alloc), List::new(alloc));
         let mut out = MemSink::new(alloc, List::new(alloc));
         let mut err = MemSink::new(alloc, List::new(alloc));

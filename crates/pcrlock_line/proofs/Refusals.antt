@@ -2,7 +2,7 @@
 use Rattle.std.proofs.Common.{◌≡◌, ◌⊎◌, ℕ, inl, inr, subst}
 use Rattle.std.specs.Prelude.{Option, Result, Ok, Err}
 use Rattle.tpm_model.specs.declared.parts.Parts.{Parts}
-use Rattle.tpm_model.specs.declared.state.StateRule.{StateRule}
+use Rattle.tpm_model.specs.declared.rules.StateRule.{StateRule}
 use Rattle.tpm_device.specs.declared.device.BeginError.{BeginError}
 use Rattle.tpm_device.specs.declared.device.BeginError.TheVariants as begin
 use Rattle.tpm_device.specs.declared.device.ExecError.{ExecError}

@@ -15,6 +15,7 @@ use Rattle.tpm_model.specs.Binding.{literal_policy}
 use Rattle.tpm_model.specs.ObjectCommands.{seal, is_policy_size, object_handle}
 use Rattle.tpm_model.specs.Pcrs.{pcr_of}
 use Rattle.tpm_model.specs.Rules.{HasRules}
+use Rattle.tpm_model.proofs.Handles.{handles_from_test}
 use Rattle.tpm_model.specs.World.{World}
 use Rattle.tpm_model.specs.Tied.{Tied}
 use Rattle.pcrlock_line.specs.Machine.{Machine}
@@ -32,7 +33,8 @@ accepted : (key : List ℕ) (literal : Literal) (s : Parts) (w : World) (in_rang
 accepted key literal s w true hash rules t =
     tied_sealed s w (record { handle = object_handle s.next_object; policy = literal_policy literal.hash literal.bank literal.pcr literal.value; secret = key })
     (binding.Literal literal.hash literal.bank literal.pcr literal.value)
-    (none_found 0x81000000 (0x81000000 + s.next_object) (object_handle s.next_object) s.objects rules.object_order (omega arith)) refl hash t
+    (none_found 0x81000000 (0x81000000 + s.next_object) (object_handle s.next_object) s.objects
+        (handles_from_test 0x81000000 (0x81000000 + s.next_object) (map (λ (x : Object). x.handle) s.objects) rules.object_order) (omega arith)) refl hash t
 accepted key literal s w false hash rules t =
     let object : Object = record { handle = object_handle s.next_object; policy = literal_policy literal.hash literal.bank literal.pcr literal.value; secret = key } in
     tied_hashed (record s { next_object = s.next_object + 1; objects = s.objects ++ object ∷ [] }) w (strings_of literal) (tied_object s w object t)

@@ -18,7 +18,7 @@ use Rattle.tpm_model.specs.declared.object.Object.{Object}
 use Rattle.tpm_model.specs.declared.parts.Parts.{Parts}
 use Rattle.tpm_model.specs.Binding.{Binding, Index, Literal, policy_of, binding_strings}
 use Rattle.tpm_model.specs.Sessions.{is_object, object_at}
-use Rattle.tpm_model.specs.Rules.{AreHandles}
+use Rattle.tpm_model.proofs.Handles.{AreHandles}
 use Rattle.tpm_model.specs.World.{World, BoundObject, AreHashed, sealed_world, hashed_world}
 use Rattle.tpm_model.specs.Tied.{Tied, IsHeld, IsSoundBinding}
 

@@ -34,7 +34,7 @@ taken bank (Some value) s h =
 pub read_value : (bank : Bank) (pcr : ℕ) (s : Parts) → pcr ≤ 23 → HasRules s → value_in bank (pcr_read bank pcr s).0 ≡ pcr_of s.banks s.pcrs bank pcr
 read_value bank pcr s small rules =
     ap (λ (r : Response × Parts). value_in bank r.0) (read_is bank pcr s small)
-    ∙ taken bank (pcr_of s.banks s.pcrs bank pcr) s (λ value e. (value_at s.banks s.pcrs bank pcr value rules.values e).size)
+    ∙ taken bank (pcr_of s.banks s.pcrs bank pcr) s (λ value e. (value_at s.banks s.pcrs bank pcr value rules.shape.values e).size)
 
 -- after a stop at a read the same state is stored
 pub stopped : (bank : Bank) (pcr : ℕ) (s : Parts) (now : Option Stored) → pcr ≤ 23

@@ -3,7 +3,7 @@ use Rattle.std.proofs.Common.{◌≡◌, ℕ, suc, ◌+◌, ◌<◌, ◌==◌, B
 use Rattle.std.specs.Prelude.{slice_get, remove, Some}
 use Rattle.std.proofs.lemmas.Bool.{eq-eqb, eqb-true}
 use Rattle.tpm_model.specs.declared.sessions.Session.{Session}
-use Rattle.tpm_model.specs.Rules.{AreHandles}
+use Rattle.tpm_model.proofs.Handles.{AreHandles}
 use Rattle.tpm_model.specs.Sessions.{session_place}
 
 at_head : (handle : ℕ) (x : Session) (b : Bool) → (x.handle == handle) ≡ b → b ≡ true → session_place handle (x ∷ []) ≡ 0

@@ -1,5 +1,5 @@
 -- What a client takes from each answer of the walk, and the state that the command leaves.
-use Rattle.std.proofs.Common.{◌≡◌, ℕ, ◌+◌, ◌^◌, ◌<◌, ◌≤◌, ◌==◌, Bool, true, false, cond, not, List, [], ◌∷◌, ◌++◌, length, refl, sym, ap, ◌∙◌, subst, arith, inl, inr}
+use Rattle.std.proofs.Common.{◌≡◌, ℕ, ◌+◌, ◌^◌, ◌<◌, ◌≤◌, ◌==◌, Bool, true, false, cond, not, List, [], ◌∷◌, ◌++◌, map, length, refl, sym, ap, ◌∙◌, subst, arith, inl, inr}
 use Rattle.std.specs.Prelude.{slice_get, slice_set, remove, nat_le, nat_lt, Option, None, Some, Result, Ok, Err}
 use Rattle.std.specs.Str.{bytes_eq}
 use Rattle.std.proofs.lemmas.Bool.{eq-eqb}
@@ -23,6 +23,7 @@ use Rattle.tpm_model.specs.Sessions.{is_session_hash, session_place, session_at,
 use Rattle.tpm_model.specs.SessionCommands.{start_session, session_handle, policy_pcr, policy_pcr_on, policy_pcr_now, noted_before, with_pcrs, present_digest, policy_get_digest, digest_on, flush_session, flush_on, with_session}
 use Rattle.tpm_model.specs.ObjectCommands.{unseal, unseal_on, unseal_of, unseal_noted, unseal_now}
 use Rattle.tpm_model.specs.Rules.{HasRules}
+use Rattle.tpm_model.proofs.Handles.{handles_from_test}
 use Rattle.policy_session.specs.declared.error.UnsealError.{UnsealError}
 use Rattle.policy_session.specs.declared.error.UnsealError.TheVariants as error
 use Rattle.policy_session.specs.LiteralUnseal.{opened_by}
@@ -55,7 +56,8 @@ starts hash s p = by_tests (is_session_hash hash) (nat_le 64 (length s.sessions)
 
 -- the session that was started last is found
 pub found : (x : Session) (s : Parts) → HasRules s → x.handle ≡ session_handle s.next_session → session_place (session_handle s.next_session) (s.sessions ++ x ∷ []) ≡ length s.sessions
-found x s rules own = place_last 0x03000000 (session_handle s.next_session) s.sessions x rules.session_order own
+found x s rules own = place_last 0x03000000 (session_handle s.next_session) s.sessions x
+    (handles_from_test 0x03000000 (session_handle s.next_session) (map (λ (y : Session). y.handle) s.sessions) rules.session_order) own
 
 found_at : (x : Session) (s : Parts) → HasRules s → x.handle ≡ session_handle s.next_session → session_at (session_handle s.next_session) (s.sessions ++ x ∷ []) ≡ Some x
 found_at x s rules own = ap (slice_get (s.sessions ++ x ∷ [])) (found x s rules own) ∙ get_last s.sessions x
@@ -157,7 +159,7 @@ binds handle literal s h l = by_value (pcr_of s.banks s.pcrs literal.bank litera
         → Means bound (policy_pcr handle literal.bank (2 ^ literal.pcr) (with_open (fresh_in literal.hash s) s)) (bind_answer literal.bank o) (with_open (bind_leaves literal o s) s)
     by_value None e =
         let w = with_open (fresh_in literal.hash s) s in
-        let no = absent s.banks s.pcrs literal.bank literal.pcr h.rules.values below e in
+        let no = absent s.banks s.pcrs literal.bank literal.pcr h.rules.shape.values below e in
         let r : policy_pcr handle literal.bank (2 ^ literal.pcr) w ≡ (answer.Refused (refusal.BankAbsent literal.bank), w) =
         on ∙ ap (λ b. cond (not b) (answer.Refused (refusal.BankAbsent literal.bank), w) (policy_pcr_now handle (fresh_in literal.hash s) literal.bank (2 ^ literal.pcr) w)) no in
         (ap (λ q. bound q.0) r, ap (λ q. q.1) r)

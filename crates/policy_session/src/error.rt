@@ -24,7 +24,7 @@ pub enum UnsealError {
     WrongBinding { session: Digest, object: Digest },
     /// The outside refused, and the device's count of faults rose. The device isn't ready any more.
     Failed,
-    /// Memory ran out, or the device gave an answer that doesn't fit its command or wasn't ready
-    /// any more; no device that tells its state does either of the last two.
+    /// Memory ran out, or the device refused a command in a way that no state of which a walk has
+    /// come so far does; no device that tells its state does that.
     Memory,
 }

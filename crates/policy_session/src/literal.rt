@@ -45,9 +45,11 @@ fn compare<T: Tpm>(
     literal: &Literal,
     session: u32,
 ) -> Result<(), UnsealError>
-    requires { IsLiteral literal.now }
+    requires readiness { T.ready tpm.old ≡ true }
+    requires literal { IsLiteral literal.now }
     ensures cause { HasCause (T.faults tpm.old) (T.faults tpm.new) (result ≡ Err UnsealError.Failed) }
     ensures never { IfErr result IsNeverForeseen }
+    ensures readiness { answers result ≡ true → T.ready tpm.new ≡ true }
     ensures told { (s : Parts) (now : List ℕ) → pcr_of s.banks s.pcrs literal.now.bank literal.now.pcr ≡ Some now → IsOpen session (bound_in literal.now now s) s
         → T.live tpm.old ≡ Some (with_open (bound_in literal.now now s) s) → T.ready tpm.old ≡ true
         → Told (compare_answer literal.now now) (with_open (bound_in literal.now now s) s) result (T.ready tpm.new) (T.live tpm.new) }
@@ -72,9 +74,11 @@ fn walk<T: Tpm>(
     session: u32,
     object: u32,
 ) -> Result<Small, UnsealError>
-    requires { IsLiteral literal.now }
+    requires readiness { T.ready tpm.old ≡ true }
+    requires literal { IsLiteral literal.now }
     ensures cause { HasCause (T.faults tpm.old) (T.faults tpm.new) (result ≡ Err UnsealError.Failed) }
     ensures never { IfErr result IsNeverForeseen }
+    ensures readiness { answers result ≡ true → T.ready tpm.new ≡ true }
     ensures told { (s : Parts) → IsOpen session (fresh_in literal.now.hash s) s → T.live tpm.old ≡ Some (with_open (fresh_in literal.now.hash s) s) → T.ready tpm.old ≡ true
         → let value = pcr_of s.banks s.pcrs literal.now.bank literal.now.pcr in
         Told (opened_at value literal.now object s) (with_open (bind_leaves literal.now value s) s) result (T.ready tpm.new) (T.live tpm.new) }
@@ -115,6 +119,7 @@ pub fn unseal_literal<T: Tpm>(
     requires object { IsObject object }
     ensures cause { HasCause (T.faults tpm.old) (T.faults tpm.new) (result ≡ Err UnsealError.Failed) }
     ensures never { IfErr result IsNeverForeseen }
+    ensures readiness { answers result ≡ true → T.ready tpm.new ≡ true }
     ensures told { (s : Parts) → T.live tpm.old ≡ Some s → HasRules s → Told (opened literal.now object s) (after_unseal s) result (T.ready tpm.new) (T.live tpm.new) }
     ensures rules { (s : Parts) → T.live tpm.old ≡ Some s → HasRules s → HasRules (after_unseal s) }
     ensures stored { (s : Parts) → T.live tpm.old ≡ Some s → HasRules s → T.stored tpm.old ≡ Some (Holds s) → Stores s (after_unseal s) result (T.stored tpm.new) }

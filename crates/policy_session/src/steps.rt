@@ -10,7 +10,7 @@ ghost use Rattle.tpm_model.specs.Pcrs.{pcr_of};
 ghost use Rattle.tpm_model.specs.Respond.{respond, is_offered};
 ghost use Rattle.tpm_model.specs.Rules.{HasRules};
 ghost use Rattle.tpm_model.specs.Sessions.{object_at};
-ghost use Rattle.policy_session.specs.Answers.{Told};
+ghost use Rattle.policy_session.specs.Answers.{is_answer as answers, Told};
 ghost use Rattle.policy_session.specs.Kept.{IsKept, Stores};
 ghost use Rattle.policy_session.specs.LiteralUnseal.{opened_by, IsNeverForeseen};
 ghost use Rattle.policy_session.specs.OpenSession.{IsOpen, with_open, closed, fresh_in, start_answer, start_leaves, bind_answer, bind_leaves};
@@ -24,20 +24,18 @@ use std::alloc::Global;
 use tpm_device::{ExecError, Tpm};
 use tpm_model::{Command, Response};
 
-/// Asks the device. One that isn't ready answers want of memory; a device that tells its state
-/// stays ready until a failure.
+/// Asks the device, which stays ready until a failure.
 fn ask<T: Tpm>(alloc: Global, tpm: &mut T, command: &Command) -> Result<Response, UnsealError>
-    requires { is_offered command.now ≡ true }
+    requires readiness { T.ready tpm.old ≡ true }
+    requires offered { is_offered command.now ≡ true }
     ensures cause { HasCause (T.faults tpm.old) (T.faults tpm.new) (result ≡ Err UnsealError.Failed) }
     ensures never { IfErr result IsNeverForeseen }
+    ensures readiness { answers result ≡ true → T.ready tpm.new ≡ true }
     ensures told { (s : Parts) → T.live tpm.old ≡ Some s → T.ready tpm.old ≡ true
         → Told (Ok (respond command.now s).0) (respond command.now s).1 result (T.ready tpm.new) (T.live tpm.new) }
     ensures stored { (base s : Parts) → T.live tpm.old ≡ Some s → T.ready tpm.old ≡ true → T.stored tpm.old ≡ Some (Holds s)
         → IsKept base s → IsKept base (respond command.now s).1 → Stores base (respond command.now s).1 result (T.stored tpm.new) }
 {
-    if !tpm.is_ready() {
-        return Err(UnsealError::Memory);
-    }
     match tpm.execute(alloc, command) {
         Ok(response) => Ok(response),
         Err(ExecError::Failed) => Err(UnsealError::Failed),
@@ -47,9 +45,11 @@ fn ask<T: Tpm>(alloc: Global, tpm: &mut T, command: &Command) -> Result<Response
 
 /// Starts a session of the hash, and gives its handle.
 pub(crate) fn start<T: Tpm>(alloc: Global, tpm: &mut T, hash: Bank) -> Result<u32, UnsealError>
-    requires { IsPolicyHash hash }
+    requires readiness { T.ready tpm.old ≡ true }
+    requires hash { IsPolicyHash hash }
     ensures cause { HasCause (T.faults tpm.old) (T.faults tpm.new) (result ≡ Err UnsealError.Failed) }
     ensures never { IfErr result IsNeverForeseen }
+    ensures readiness { answers result ≡ true → T.ready tpm.new ≡ true }
     ensures told { (s : Parts) → T.live tpm.old ≡ Some s → T.ready tpm.old ≡ true
         → Told (start_answer s) (start_leaves hash s) result (T.ready tpm.new) (T.live tpm.new) }
     ensures stored { (s : Parts) → HasRules s → T.live tpm.old ≡ Some s → T.ready tpm.old ≡ true → T.stored tpm.old ≡ Some (Holds s)
@@ -76,9 +76,11 @@ pub(crate) fn bind<T: Tpm>(
     literal: &Literal,
     session: u32,
 ) -> Result<(), UnsealError>
-    requires { IsLiteral literal.now }
+    requires readiness { T.ready tpm.old ≡ true }
+    requires literal { IsLiteral literal.now }
     ensures cause { HasCause (T.faults tpm.old) (T.faults tpm.new) (result ≡ Err UnsealError.Failed) }
     ensures never { IfErr result IsNeverForeseen }
+    ensures readiness { answers result ≡ true → T.ready tpm.new ≡ true }
     ensures told { (s : Parts) → IsOpen session (fresh_in literal.now.hash s) s → T.live tpm.old ≡ Some (with_open (fresh_in literal.now.hash s) s) → T.ready tpm.old ≡ true
         → let value = pcr_of s.banks s.pcrs literal.now.bank literal.now.pcr in
         Told (bind_answer literal.now.bank value) (with_open (bind_leaves literal.now value s) s) result (T.ready tpm.new) (T.live tpm.new) }
@@ -105,8 +107,10 @@ pub(crate) fn read_digest<T: Tpm>(
     tpm: &mut T,
     session: u32,
 ) -> Result<Digest, UnsealError>
+    requires { T.ready tpm.old ≡ true }
     ensures cause { HasCause (T.faults tpm.old) (T.faults tpm.new) (result ≡ Err UnsealError.Failed) }
     ensures never { IfErr result IsNeverForeseen }
+    ensures readiness { answers result ≡ true → T.ready tpm.new ≡ true }
     ensures told { (s : Parts) (x : Session) → IsOpen session x s → T.live tpm.old ≡ Some (with_open x s) → T.ready tpm.old ≡ true
         → Told (Ok x.digest) (with_open x s) result (T.ready tpm.new) (T.live tpm.new) }
     ensures stored { (s : Parts) (x : Session) → IsOpen session x s → T.live tpm.old ≡ Some (with_open x s) → T.ready tpm.old ≡ true
@@ -122,9 +126,11 @@ pub(crate) fn read_value<T: Tpm>(
     tpm: &mut T,
     literal: &Literal,
 ) -> Result<Digest, UnsealError>
-    requires { IsLiteral literal.now }
+    requires readiness { T.ready tpm.old ≡ true }
+    requires literal { IsLiteral literal.now }
     ensures cause { HasCause (T.faults tpm.old) (T.faults tpm.new) (result ≡ Err UnsealError.Failed) }
     ensures never { IfErr result IsNeverForeseen }
+    ensures readiness { answers result ≡ true → T.ready tpm.new ≡ true }
     ensures told { (s : Parts) (x : Session) (now : List ℕ) → pcr_of s.banks s.pcrs literal.now.bank literal.now.pcr ≡ Some now → T.live tpm.old ≡ Some (with_open x s) → T.ready tpm.old ≡ true
         → Told (Ok now) (with_open x s) result (T.ready tpm.new) (T.live tpm.new) }
     ensures stored { (s : Parts) (x : Session) (now : List ℕ) → pcr_of s.banks s.pcrs literal.now.bank literal.now.pcr ≡ Some now → IsKept s (with_open x s) → T.live tpm.old ≡ Some (with_open x s) → T.ready tpm.old ≡ true
@@ -148,8 +154,10 @@ pub(crate) fn unseal<T: Tpm>(
     session: u32,
     object: u32,
 ) -> Result<Small, UnsealError>
+    requires { T.ready tpm.old ≡ true }
     ensures cause { HasCause (T.faults tpm.old) (T.faults tpm.new) (result ≡ Err UnsealError.Failed) }
     ensures never { IfErr result IsNeverForeseen }
+    ensures readiness { answers result ≡ true → T.ready tpm.new ≡ true }
     ensures told { (s : Parts) (x : Session) → IsOpen session x s → x.noted ≡ Some s.update_counter → T.live tpm.old ≡ Some (with_open x s) → T.ready tpm.old ≡ true
         → Told (opened_by x.digest object (object_at object s.objects)) (with_open x s) result (T.ready tpm.new) (T.live tpm.new) }
     ensures stored { (s : Parts) (x : Session) → IsOpen session x s → x.noted ≡ Some s.update_counter → T.live tpm.old ≡ Some (with_open x s) → T.ready tpm.old ≡ true
@@ -168,8 +176,10 @@ pub(crate) fn unseal<T: Tpm>(
 
 /// Ends the session.
 pub(crate) fn flush<T: Tpm>(alloc: Global, tpm: &mut T, session: u32) -> Result<(), UnsealError>
+    requires { T.ready tpm.old ≡ true }
     ensures cause { HasCause (T.faults tpm.old) (T.faults tpm.new) (result ≡ Err UnsealError.Failed) }
     ensures never { IfErr result IsNeverForeseen }
+    ensures readiness { answers result ≡ true → T.ready tpm.new ≡ true }
     ensures told { (s : Parts) (x : Session) → IsOpen session x s → T.live tpm.old ≡ Some (with_open x s) → T.ready tpm.old ≡ true
         → Told (Ok tt) (closed s) result (T.ready tpm.new) (T.live tpm.new) }
     ensures stored { (s : Parts) (x : Session) → IsOpen session x s → T.live tpm.old ≡ Some (with_open x s) → T.ready tpm.old ≡ true

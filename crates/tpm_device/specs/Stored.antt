@@ -1,8 +1,8 @@
 -- What a device keeps, and what its calls answer and leave.
-use Rattle.std.specs.Prelude.{◌≡◌, ◌⊎◌, ℕ, Bool, true, false, Option, None, Some, Result, Ok, Err}
+use Rattle.std.specs.Prelude.{◌≡◌, ◌⊎◌, ℕ, Bool, true, false, Option, Some, Result, Ok, Err}
 use Rattle.tpm_model.specs.declared.command.Command.{Command}
 use Rattle.tpm_model.specs.declared.response.Response.{Response}
-use Rattle.tpm_model.specs.declared.state.StateRule.{StateRule}
+use Rattle.tpm_model.specs.declared.rules.StateRule.{StateRule}
 use Rattle.tpm_model.specs.declared.parts.Parts.{Parts}
 use Rattle.tpm_model.specs.Respond.{respond}
 use Rattle.tpm_device.specs.declared.device.BeginError.{BeginError}
@@ -25,6 +25,12 @@ BeginGives kept (Err (begin.Malformed place)) now = kept ≡ Malformed place
 BeginGives kept (Err (begin.BadRule rule)) now = kept ≡ BadRule rule
 BeginGives kept (Err begin.Failed) now = Unit {0}
 BeginGives kept (Err begin.Memory) now = Unit {0}
+
+-- whether the device is ready after a command: after a failure it isn't
+abbrev pub stays_ready : Result Response ExecError → Bool
+stays_ready (Ok answer) = true
+stays_ready (Err exec.Failed) = false
+stays_ready (Err exec.Memory) = true
 
 -- the answer is the state's, and the next state is live; a failure ends the device's readiness, want
 -- of memory changes nothing

@@ -2,9 +2,10 @@
 ghost use Rattle.std.specs.Prelude.{◌≡◌, ℕ, Bool, true, false, Option, Some, is_ok, Err, IfOk, IfSome};
 ghost use Rattle.pl_base.specs.Faults.{HasCause};
 ghost use Rattle.tpm_model.specs.declared.parts.Parts.{Parts};
+ghost use Rattle.tpm_model.specs.Fits.{fits};
 ghost use Rattle.tpm_model.specs.Respond.{is_offered};
 ghost use Rattle.tpm_model.specs.Rules.{HasRules};
-ghost use Rattle.tpm_device.specs.Stored.{Stored, Holds, BeginGives, ExecuteGives, ExecuteStores};
+ghost use Rattle.tpm_device.specs.Stored.{Stored, Holds, BeginGives, ExecuteGives, ExecuteStores, stays_ready};
 
 use std::alloc::Global;
 use tpm_model::{Command, Response, StateRule};
@@ -59,12 +60,14 @@ pub trait Tpm {
     fn is_ready(&self) -> bool
         ensures { result ≡ ready self.now };
 
-    /// Executes a command on the live state. After a failure the device isn't ready, and what is
-    /// stored is the state before or the next one.
+    /// Executes a command on the live state. An answer fits the command. After a failure the device
+    /// isn't ready, and what is stored is the state before or the next one; else it stays ready.
     fn execute(&mut self, alloc: Global, command: &Command) -> Result<Response, ExecError>
         requires readiness { ready self.old ≡ true }
         requires offered { is_offered command.now ≡ true }
         ensures cause { HasCause (faults self.old) (faults self.new) (result ≡ Err ExecError.Failed) }
+        ensures fitting { IfOk result (λ answer. fits command.now answer ≡ true) }
+        ensures readiness { ready self.new ≡ stays_ready result }
         ensures told { (s : Parts) → live self.old ≡ Some s → ExecuteGives command.now s result (ready self.new) (live self.new) }
         ensures rules { (s : Parts) → live self.old ≡ Some s → HasRules s → IfSome (live self.new) HasRules }
         ensures stored { (s : Parts) → live self.old ≡ Some s → stored self.old ≡ Some (Holds s) → ExecuteStores command.now s result (stored self.new) };

@@ -1,11 +1,12 @@
 //! A TPM in memory.
-ghost use Rattle.std.specs.Prelude.{◌≡◌, ℕ, Bool, true, false, ◌≢◌, Option, Some, is_ok, IsOk, Err, IfSome};
+ghost use Rattle.std.specs.Prelude.{◌≡◌, ℕ, Bool, true, false, ◌≢◌, Option, Some, is_ok, IsOk, Err, IfOk, IfSome};
 ghost use Rattle.pl_base.specs.Calls.{FollowsPlan};
 ghost use Rattle.pl_base.specs.Faults.{HasCause};
 ghost use Rattle.tpm_model.specs.declared.parts.Parts.{Parts};
+ghost use Rattle.tpm_model.specs.Fits.{fits};
 ghost use Rattle.tpm_model.specs.Respond.{is_offered};
 ghost use Rattle.tpm_model.specs.Rules.{HasRules};
-ghost use Rattle.tpm_device.specs.Stored.{Stored, Holds, BeginGives, ExecuteGives, ExecuteStores};
+ghost use Rattle.tpm_device.specs.Stored.{Stored, Holds, BeginGives, ExecuteGives, ExecuteStores, stays_ready};
 
 use crate::{BeginError, ExecError, Tpm};
 use pl_base::{Fail, List, Schedule};
@@ -49,6 +50,7 @@ impl SoftTpm {
         requires readiness { self.old.ready ≡ true }
         ensures told { ExecuteGives command.now self.old.state result self.old.ready (Some self.new.state) }
         ensures memory { result ≢ Err ExecError.Failed }
+        ensures fitting { IfOk result (λ answer. fits command.now answer ≡ true) }
         ensures same { (self.new.calls ≡ self.old.calls) × (self.new.ready ≡ self.old.ready) }
         ensures rules { HasRules self.new.state }
     {
@@ -96,6 +98,8 @@ impl Tpm for SoftTpm {
         requires readiness { self.old.ready ≡ true }
         requires offered { is_offered command.now ≡ true }
         ensures cause { HasCause self.old.calls.faults self.new.calls.faults (result ≡ Err ExecError.Failed) }
+        ensures fitting { IfOk result (λ answer. fits command.now answer ≡ true) }
+        ensures readiness { self.new.ready ≡ stays_ready result }
         ensures told { (s : Parts) → Some self.old.state ≡ Some s → ExecuteGives command.now s result self.new.ready (Some self.new.state) }
         ensures rules { (s : Parts) → Some self.old.state ≡ Some s → HasRules s → IfSome (Some self.new.state) HasRules }
         ensures stored { (s : Parts) → Some self.old.state ≡ Some s → Some (Holds self.old.state) ≡ Some (Holds s) → ExecuteStores command.now s result (Some (Holds self.new.state)) }

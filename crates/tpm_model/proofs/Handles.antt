@@ -1,54 +1,48 @@
--- Lists of handles that ascend, and facts of each element of a list, under the edits that commands do.
-use Rattle.std.proofs.Common.{◌≡◌, ℕ, zero, suc, ◌+◌, ◌<◌, ◌≤◌, List, [], ◌∷◌, ◌++◌, map, length, take, drop, set, Bool, true, false, cond, refl, sym, ap, ◌∙◌, subst, arith}
-use Rattle.std.specs.Prelude.{remove, slice_get, Option, None, Some}
-use Rattle.std.specs.List.{AllByRecursion, find}
-use Rattle.tpm_model.specs.Rules.{AreHandles}
+-- Lists of handles that ascend, under the edits that commands do.
+use Rattle.std.proofs.Common.{◌≡◌, ℕ, zero, suc, ◌+◌, ◌<◌, ◌≤◌, List, [], ◌∷◌, ◌++◌, true, ◌&&◌, refl, arith}
+use Rattle.std.specs.Prelude.{nat_le, nat_lt, remove}
+use Rattle.std.proofs.lemmas.Bool.{and_from, and_parts, le-leb, leb-true, lt-ltb, ltb-true}
+use Rattle.tpm_model.specs.Handles.{are_handles}
 
--- the end itself may follow
-pub handles_push : (first end : ℕ) (handles : List ℕ) → first ≤ end → AreHandles first end handles → AreHandles first (end + 1) (handles ++ end ∷ [])
-handles_push first end [] h t = (h, omega arith, tt)
-handles_push first end (x ∷ xs) h t =
+-- handles that strictly ascend, from the first one allowed to below the end
+abbrev pub AreHandles : ℕ → ℕ → List ℕ → Type 0
+AreHandles first end [] = Unit {0}
+AreHandles first end (handle ∷ handles) = (first ≤ handle) × (handle < end) × AreHandles (handle + 1) end handles
+
+pub handles_from_test : (first end : ℕ) (handles : List ℕ) → are_handles first end handles ≡ true → AreHandles first end handles
+handles_from_test first end [] e = tt
+handles_from_test first end (x ∷ xs) e =
+    let both = and_parts (nat_le first x && nat_lt x end) (are_handles (x + 1) end xs) e in
+    let ends = and_parts (nat_le first x) (nat_lt x end) both.0 in
+    (leb-true first x ends.0, ltb-true x end ends.1, handles_from_test (x + 1) end xs both.1)
+
+pub test_from_handles : (first end : ℕ) (handles : List ℕ) → AreHandles first end handles → are_handles first end handles ≡ true
+test_from_handles first end [] t = refl
+test_from_handles first end (x ∷ xs) t =
+    and_from (nat_le first x && nat_lt x end) (are_handles (x + 1) end xs)
+    (and_from (nat_le first x) (nat_lt x end) (le-leb first x t.0) (lt-ltb x end t.1))
+    (test_from_handles (x + 1) end xs t.2)
+
+push : (first end : ℕ) (handles : List ℕ) → first ≤ end → AreHandles first end handles → AreHandles first (end + 1) (handles ++ end ∷ [])
+push first end [] h t = (h, omega arith, tt)
+push first end (x ∷ xs) h t =
     let next : x + 1 ≤ end = omega (arith, t.1) in
-    (t.0, omega (arith, t.1), handles_push (x + 1) end xs next t.2)
+    (t.0, omega (arith, t.1), push (x + 1) end xs next t.2)
 
 -- fewer may come before
-pub handles_from : (first low end : ℕ) (handles : List ℕ) → low ≤ first → AreHandles first end handles → AreHandles low end handles
-handles_from first low end [] h t = tt
-handles_from first low end (x ∷ xs) h t = (omega (arith, t.0), t.1, t.2)
+later : (first low end : ℕ) (handles : List ℕ) → low ≤ first → AreHandles first end handles → AreHandles low end handles
+later first low end [] h t = tt
+later first low end (x ∷ xs) h t = (omega (arith, t.0), t.1, t.2)
 
-pub handles_remove : (first end : ℕ) (handles : List ℕ) (i : ℕ) → AreHandles first end handles → AreHandles first end (remove handles i)
-handles_remove first end [] zero t = tt
-handles_remove first end [] (suc i) t = tt
-handles_remove first end (x ∷ xs) zero t = handles_from (x + 1) first end xs (omega (arith, t.0)) t.2
-handles_remove first end (x ∷ xs) (suc i) t = (t.0, t.1, handles_remove (x + 1) end xs i t.2)
+without : (first end : ℕ) (handles : List ℕ) (i : ℕ) → AreHandles first end handles → AreHandles first end (remove handles i)
+without first end [] zero t = tt
+without first end [] (suc i) t = tt
+without first end (x ∷ xs) zero t = later (x + 1) first end xs (omega (arith, t.0)) t.2
+without first end (x ∷ xs) (suc i) t = (t.0, t.1, without (x + 1) end xs i t.2)
 
-pub map-remove : {A : Type 0} {B : Type 0} (f : A → B) (xs : List A) (i : ℕ) → map f (remove xs i) ≡ remove (map f xs) i
-map-remove f [] zero = refl
-map-remove f [] (suc i) = refl
-map-remove f (x ∷ xs) zero = refl
-map-remove f (x ∷ xs) (suc i) = ap (λ ys. f x ∷ ys) (map-remove f xs i)
+-- the end itself may follow
+pub handles_push : (first end : ℕ) (handles : List ℕ) → first ≤ end → are_handles first end handles ≡ true → are_handles first (end + 1) (handles ++ end ∷ []) ≡ true
+handles_push first end handles h e = test_from_handles first (end + 1) (handles ++ end ∷ []) (push first end handles h (handles_from_test first end handles e))
 
-pub all_push : {A : Type 0} (P : A → Type 0) (xs : List A) (y : A) → AllByRecursion P xs → P y → AllByRecursion P (xs ++ y ∷ [])
-all_push P [] y all p = (p, tt)
-all_push P (x ∷ xs) y all p = (all.0, all_push P xs y all.1 p)
-
-pub all_set : {A : Type 0} (P : A → Type 0) (xs : List A) (i : ℕ) (y : A) → AllByRecursion P xs → P y → AllByRecursion P (set xs i y)
-all_set P [] zero y all p = tt
-all_set P [] (suc i) y all p = tt
-all_set P (x ∷ xs) zero y all p = (p, all.1)
-all_set P (x ∷ xs) (suc i) y all p = (all.0, all_set P xs i y all.1 p)
-
-pub all_remove : {A : Type 0} (P : A → Type 0) (xs : List A) (i : ℕ) → AllByRecursion P xs → AllByRecursion P (remove xs i)
-all_remove P [] zero all = tt
-all_remove P [] (suc i) all = tt
-all_remove P (x ∷ xs) zero all = all.1
-all_remove P (x ∷ xs) (suc i) all = (all.0, all_remove P xs i all.1)
-
--- what holds of each holds of one that is found
-pub all_found : {A : Type 0} (P : A → Type 0) (p : A → Bool) (xs : List A) (y : A) → AllByRecursion P xs → find p xs ≡ Some y → P y
-all_found P p [] y all e = cc
-all_found P p (x ∷ xs) y all e =
-    elim (p x) as (λ b. cond b (Some x) (find p xs) ≡ Some y → P y) [
-      | true ↦ λ h. let same : x ≡ y = cc in subst P same all.0
-      | false ↦ λ h. all_found P p xs y all.1 h
-    ] e
+pub handles_remove : (first end : ℕ) (handles : List ℕ) (i : ℕ) → are_handles first end handles ≡ true → are_handles first end (remove handles i) ≡ true
+handles_remove first end handles i e = test_from_handles first end (remove handles i) (without first end handles i (handles_from_test first end handles e))

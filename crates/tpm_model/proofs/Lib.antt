@@ -1,5 +1,9 @@
 pub mod PcrPlaces
-pub mod Handles
 pub mod Places
-pub mod KeepsRules
 pub mod Starts
+pub mod Lists
+pub mod Handles
+pub mod TrailSteps
+pub mod KeepsRules
+pub mod AnswersFit
+pub mod FromParts

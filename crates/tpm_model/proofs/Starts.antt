@@ -7,8 +7,8 @@ use Rattle.hash_bank.specs.declared.bank.Bank.TheVariants.{Sha1, Sha256, Sha384,
 use Rattle.hash_bank.specs.declared.banks.Banks.{Banks}
 use Rattle.hash_bank.specs.Hash.{size_in}
 use Rattle.hash_bank.proofs.Sizes.{length-start_of}
-use Rattle.tpm_model.specs.Pcrs.{sizes_if, sizes_of, HasValues}
-use Rattle.tpm_model.specs.Fresh.{starts_from, starts_if, start_values}
+use Rattle.tpm_model.specs.Pcrs.{sizes_if, HasValues}
+use Rattle.tpm_model.specs.StartValues.{starts_from, starts_if, start_values}
 
 -- the first of the values that are left
 pub starts_step : (bank : Bank) (locality pcr : ℕ) → pcr < 24 → starts_from bank locality pcr (24 - pcr) ≡ start_of bank pcr locality ∷ starts_from bank locality (pcr + 1) (24 - (pcr + 1))

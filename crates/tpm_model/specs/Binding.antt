@@ -1,5 +1,5 @@
 -- What a sealed object is bound to, and the policy that this gives.
-use Rattle.std.specs.Prelude.{ℕ, ◌^◌, List, [], ◌∷◌}
+use Rattle.std.specs.Prelude.{ℕ, ◌^◌, List}
 use Rattle.hash_bank.specs.declared.bank.Bank.{Bank}
 use Rattle.hash_bank.specs.declared.bank.Bank.TheVariants.{Sha256}
 use Rattle.hash_bank.specs.Hash.{digest_in, zeros_in}

@@ -1,12 +1,13 @@
 -- The PCR values of the present banks as one list: for each present bank, in the order SHA-1,
 -- SHA-256, SHA-384, SHA-512, its 24 values.
-use Rattle.std.specs.Prelude.{◌≡◌, ℕ, ◌+◌, ◌*◌, ◌/◌, ◌%◌, ◌<◌, ◌==◌, nat_lt, Bool, ◌&&◌, if◌then◌else◌, List, [], ◌∷◌, ◌++◌, map, length, take, drop, replicate, slice_get, slice_set, Option, None, Some}
+use Rattle.std.specs.Prelude.{◌≡◌, ℕ, ◌+◌, ◌*◌, ◌/◌, ◌%◌, ◌==◌, nat_lt, Bool, ◌&&◌, if◌then◌else◌, List, [], ◌∷◌, ◌++◌, map, length, take, drop, replicate, slice_get, slice_set, Option, None, Some}
 use Rattle.hash_bank.specs.declared.bank.Bank.{Bank}
 use Rattle.hash_bank.specs.declared.bank.Bank.TheVariants.{Sha1, Sha256, Sha384, Sha512}
 use Rattle.hash_bank.specs.declared.banks.Banks.{Banks}
 use Rattle.hash_bank.specs.declared.digests.Digests.{Digests}
 use Rattle.hash_bank.specs.Banks.{has_bank}
 use Rattle.hash_bank.specs.Extending.{extended}
+use Rattle.policy_digest.specs.Policies.{values_digest_of}
 
 -- one for a bank that is present
 abbrev pub one_if : Bool → ℕ
@@ -40,6 +41,10 @@ values_of banks pcrs bank = take 24 (drop (24 * banks_before banks bank) pcrs)
 abbrev pub chosen : {X : Type 0} → ℕ → List X → List X
 chosen mask [] = []
 chosen mask (value ∷ values) = if mask % 2 == 1 then value ∷ chosen (mask / 2) values else chosen (mask / 2) values
+
+-- the digest of the mask's values in a bank, under the hash
+abbrev pub present_digest_in : Bank → Bank → ℕ → Banks → List (List ℕ) → List ℕ
+present_digest_in hash bank pcrs banks values = values_digest_of hash (chosen pcrs (values_of banks values bank))
 
 -- the values with this one put in place of the PCR's, where there is a digest for it
 abbrev pub put_extended : Bank → Option (List ℕ) → Option (List ℕ) → ℕ → List (List ℕ) → List (List ℕ)

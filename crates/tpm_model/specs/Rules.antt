@@ -1,39 +1,51 @@
--- The rules that every state keeps.
-use Rattle.std.specs.Prelude.{◌≡◌, ◌⊎◌, ℕ, ◌+◌, ◌<◌, ◌≤◌, ◌^◌, true, List, [], ◌∷◌, map, length}
-use Rattle.std.specs.List.{AllByRecursion}
-use Rattle.hash_bank.specs.Hash.{size_in}
-use Rattle.tpm_model.specs.declared.sessions.Session.{Session}
-use Rattle.tpm_model.specs.declared.object.Object.{Object}
+-- The twelve rules that every state keeps, and the first that a state from outside breaks.
+use Rattle.std.specs.Prelude.{◌≡◌, nat_le, Bool, true, not, ◌&&◌, if◌then◌else◌, Option, None, Some}
 use Rattle.tpm_model.specs.declared.parts.Parts.{Parts}
-use Rattle.tpm_model.specs.Pcrs.{HasValues, bank_count}
-use Rattle.policy_digest.specs.Policies.{IsPolicyHash}
+use Rattle.tpm_model.specs.declared.rules.StateRule.{StateRule}
+use Rattle.tpm_model.specs.declared.rules.StateRule.TheVariants as rule
+use Rattle.tpm_model.specs.IndexRules.{keeps_index_attributes, keeps_index_order}
+use Rattle.tpm_model.specs.ObjectRules.{keeps_object_order, keeps_secret}
+use Rattle.tpm_model.specs.Pcrs.{bank_count}
+use Rattle.tpm_model.specs.SessionRules.{keeps_fold, keeps_noted, keeps_nv_now, keeps_or_member, keeps_pcr_now, keeps_session_order}
+use Rattle.tpm_model.specs.Shape.{HasShape}
 
--- a session's hash is allowed, its digest has the hash's size, and its trail has at most 128 entries
-pub record IsSessionShape (session : Session) : Type 0 where
-  pub hash : IsPolicyHash session.hash
-  pub digest : length session.digest ≡ size_in session.hash
-  pub trail : length session.trail ≤ 128
+-- a bank is present
+abbrev pub keeps_banks : Parts → Bool
+keeps_banks s = nat_le 1 (bank_count s.banks)
 
--- an object's policy has the size of a session's digest, and its secret has 1 to 128 bytes
-pub record IsObjectShape (object : Object) : Type 0 where
-  pub policy : (length object.policy ≡ 32) ⊎ (length object.policy ≡ 48)
-  pub some : 1 ≤ length object.secret
-  pub most : length object.secret ≤ 128
+-- the numbers of the next session and of the next object are at most those at which handles end
+abbrev pub keeps_counters : Parts → Bool
+keeps_counters s = nat_le s.next_session 0x01000000 && nat_le s.next_object 0x00800000
 
--- handles that strictly ascend, from the first one allowed to below the end
-abbrev pub AreHandles : ℕ → ℕ → List ℕ → Type 0
-AreHandles first end [] = Unit {0}
-AreHandles first end (handle ∷ handles) = (first ≤ handle) × (handle < end) × AreHandles (handle + 1) end handles
-
--- the rules of a state
+-- what every state keeps: a shape that its layout can hold, and the twelve rules
 pub record HasRules (s : Parts) : Type 0 where
-  pub banks : 1 ≤ bank_count s.banks
-  pub values : HasValues s.banks s.pcrs
-  pub next_session : s.next_session ≤ 0x01000000
-  pub next_object : s.next_object ≤ 0x00800000
-  pub session_count : length s.sessions ≤ 64
-  pub session_shape : AllByRecursion IsSessionShape s.sessions
-  pub session_order : AreHandles 0x03000000 (0x03000000 + s.next_session) (map (λ session. session.handle) s.sessions)
-  pub object_count : length s.objects ≤ 64
-  pub object_shape : AllByRecursion IsObjectShape s.objects
-  pub object_order : AreHandles 0x81000000 (0x81000000 + s.next_object) (map (λ object. object.handle) s.objects)
+  pub shape : HasShape s
+  pub banks : keeps_banks s ≡ true
+  pub counters : keeps_counters s ≡ true
+  pub session_order : keeps_session_order s ≡ true
+  pub fold : keeps_fold s ≡ true
+  pub or_member : keeps_or_member s ≡ true
+  pub noted : keeps_noted s ≡ true
+  pub pcr_now : keeps_pcr_now s ≡ true
+  pub nv_now : keeps_nv_now s ≡ true
+  pub index_order : keeps_index_order s ≡ true
+  pub index_attributes : keeps_index_attributes s ≡ true
+  pub object_order : keeps_object_order s ≡ true
+  pub secret : keeps_secret s ≡ true
+
+-- the first rule that is broken, in the order in which they are tested
+abbrev pub broken_rule : Parts → Option StateRule
+broken_rule s =
+    if not (keeps_banks s) then Some rule.Banks
+    else if not (keeps_counters s) then Some rule.Counters
+    else if not (keeps_session_order s) then Some rule.SessionOrder
+    else if not (keeps_fold s) then Some rule.Fold
+    else if not (keeps_or_member s) then Some rule.OrMember
+    else if not (keeps_noted s) then Some rule.Noted
+    else if not (keeps_pcr_now s) then Some rule.PcrNow
+    else if not (keeps_nv_now s) then Some rule.NvNow
+    else if not (keeps_index_order s) then Some rule.IndexOrder
+    else if not (keeps_index_attributes s) then Some rule.IndexAttributes
+    else if not (keeps_object_order s) then Some rule.ObjectOrder
+    else if not (keeps_secret s) then Some rule.Secret
+    else None

@@ -1,8 +1,8 @@
 -- What the commands on policy sessions answer and leave.
-use Rattle.std.specs.Prelude.{ℕ, ◌+◌, ◌^◌, nat_lt, nat_le, ◌==◌, Bool, true, false, not, ◌||◌, if◌then◌else◌, List, [], ◌∷◌, ◌++◌, length, remove, slice_set, Option, None, Some}
+use Rattle.std.specs.Prelude.{ℕ, ◌+◌, ◌^◌, nat_le, ◌==◌, not, if◌then◌else◌, List, [], ◌∷◌, ◌++◌, length, remove, slice_set, Option, None, Some}
 use Rattle.hash_bank.specs.declared.bank.Bank.{Bank}
 use Rattle.hash_bank.specs.Banks.{has_bank}
-use Rattle.policy_digest.specs.Policies.{values_digest_of, policy_pcr_of}
+use Rattle.policy_digest.specs.Policies.{policy_pcr_of}
 use Rattle.tpm_model.specs.declared.response.Response.{Response}
 use Rattle.tpm_model.specs.declared.response.Response.TheVariants as answer
 use Rattle.tpm_model.specs.declared.response.Refusal.TheVariants as refusal
@@ -10,7 +10,7 @@ use Rattle.tpm_model.specs.declared.trail.TrailEntry.{TrailEntry}
 use Rattle.tpm_model.specs.declared.trail.TrailEntry.TheVariants as entry
 use Rattle.tpm_model.specs.declared.sessions.Session.{Session}
 use Rattle.tpm_model.specs.declared.parts.Parts.{Parts}
-use Rattle.tpm_model.specs.Pcrs.{values_of, chosen}
+use Rattle.tpm_model.specs.Pcrs.{present_digest_in}
 use Rattle.tpm_model.specs.Sessions.{is_session_hash, fresh_session, session_place, session_at}
 use Rattle.tpm_model.specs.Refusing.{refused}
 
@@ -48,7 +48,7 @@ with_session handle session sessions = slice_set sessions (session_place handle 
 
 -- the digest of the mask's present values, under the hash
 abbrev pub present_digest : Bank → Bank → ℕ → Parts → List ℕ
-present_digest hash bank pcrs s = values_digest_of hash (chosen pcrs (values_of s.banks s.pcrs bank))
+present_digest hash bank pcrs s = present_digest_in hash bank pcrs s.banks s.pcrs
 
 -- PolicyPCR on a session whose noted counter is the present one or none
 abbrev pub policy_pcr_now : ℕ → Session → Bank → ℕ → Parts → Response × Parts

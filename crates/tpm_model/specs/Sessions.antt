@@ -1,9 +1,9 @@
 -- Policy sessions of a state.
-use Rattle.std.specs.Prelude.{◌≡◌, ℕ, ◌+◌, ◌<◌, ◌≤◌, ◌==◌, Bool, true, false, List, [], ◌∷◌, length, slice_get, Option, None, Some}
+use Rattle.std.specs.Prelude.{ℕ, ◌==◌, Bool, true, false, List, [], slice_get, Option, None}
 use Rattle.std.specs.List.{find, position_or_len}
 use Rattle.hash_bank.specs.declared.bank.Bank.{Bank}
 use Rattle.hash_bank.specs.declared.bank.Bank.TheVariants.{Sha1, Sha256, Sha384, Sha512}
-use Rattle.hash_bank.specs.Hash.{zeros_in, size_in}
+use Rattle.hash_bank.specs.Hash.{zeros_in}
 use Rattle.tpm_model.specs.declared.sessions.Session.{Session}
 use Rattle.tpm_model.specs.declared.object.Object.{Object}
 

@@ -1,9 +1,7 @@
 -- How a state hangs together with the world around it. The parts that speak of indices, of their
 -- writes and of the trails of sessions come with the commands on indices.
-use Rattle.std.specs.Prelude.{◌≡◌, ℕ, ◌≤◌, ◌<◌, ◌^◌, List, Contains, Option, None, Some, IfSome}
+use Rattle.std.specs.Prelude.{◌≡◌, ℕ, List, Contains, Some}
 use Rattle.std.specs.FinMap.{get}
-use Rattle.hash_bank.specs.declared.bank.Bank.{Bank}
-use Rattle.hash_bank.specs.Hash.{size_in}
 use Rattle.policy_digest.specs.Policies.{IsPolicyHash}
 use Rattle.tpm_model.specs.declared.object.Object.{Object}
 use Rattle.tpm_model.specs.declared.parts.Parts.{Parts}
@@ -12,7 +10,7 @@ use Rattle.policy_digest.specs.BindingStrings.{bind_strings}
 use Rattle.policy_digest.specs.Pin.{pin_strings}
 use Rattle.tpm_model.specs.Binding.{Binding, Index, Literal, policy_of, binding_strings}
 use Rattle.tpm_model.specs.Sessions.{object_at}
-use Rattle.tpm_model.specs.World.{World, BoundObject, PolicyUpdate, FiledPolicy, AreHashed}
+use Rattle.tpm_model.specs.World.{World, BoundObject, PolicyUpdate, AreHashed}
 
 -- the pin of an index binding is one that a policy was made with; a literal's hash is one of policies
 abbrev pub IsSoundBinding : World → Binding → Type 0

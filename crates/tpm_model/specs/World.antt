@@ -1,5 +1,5 @@
 -- What the program and all others have done to a TPM, as data.
-use Rattle.std.specs.Prelude.{◌≡◌, ℕ, List, ◌++◌, Contains, Option, None, Some}
+use Rattle.std.specs.Prelude.{ℕ, List, ◌++◌, Contains, Option}
 use Rattle.std.specs.Ordering.{nat_cmp}
 use Rattle.std.specs.FinMap.{FinMap, insert}
 use Rattle.hash_bank.specs.declared.banks.Banks.{Banks}
@@ -7,7 +7,6 @@ use Rattle.hash_bank.specs.HashedString.{HashedString}
 use Rattle.policy_digest.specs.PlainTable.{PlainTable}
 use Rattle.tpm_model.specs.declared.parts.Parts.{Parts}
 use Rattle.tpm_model.specs.Binding.{Binding, binding_strings}
-use Rattle.tpm_model.specs.Pcrs.{pcr_of}
 
 -- the pin of an index and the newest table under it
 pub record LiveIndex : Type 0 where

@@ -4,18 +4,27 @@
 #![tactic(auto)]
 
 mod command;
+mod fitting;
+mod held;
+mod index_rules;
 mod object;
+mod object_rules;
 mod parts;
+mod pcr_values;
 mod pcrs;
 mod response;
+mod rules;
+mod session_rules;
 mod sessions;
 mod state;
 mod trail;
 
 pub use crate::command::Command;
+pub use crate::fitting::fits;
 pub use crate::object::Object;
 pub use crate::parts::Parts;
 pub use crate::response::{Counter, Refusal, Response};
+pub use crate::rules::StateRule;
 pub use crate::sessions::Session;
-pub use crate::state::{State, StateRule, step};
+pub use crate::state::{State, step};
 pub use crate::trail::{Trail, TrailEntry};

@@ -1,10 +1,12 @@
 //! Sealed objects, and the commands on them.
 ghost use Rattle.std.specs.Prelude.{◌≡◌, ◌+◌, ◌<◌, ◌≤◌, ◌==◌, [], ◌∷◌, ◌++◌, length, option_copied, IfOk, OnErr};
+ghost use Rattle.tpm_model.specs.Held.{parts_of};
 ghost use Rattle.tpm_model.specs.Sessions.{object_at};
 ghost use Rattle.tpm_model.specs.ObjectCommands.{is_policy_size as has_policy_size, seal, unseal};
 
+use crate::held::Held;
 use crate::sessions::{find_session, noted_before};
-use crate::{Parts, Refusal, Response};
+use crate::{Refusal, Response};
 use hash_bank::Digest;
 use pl_base::{Memory, Small};
 use std::alloc::Global;
@@ -37,16 +39,16 @@ fn find_object(objects: &[Object], handle: u32) -> Option<&Object>
 }
 
 /// Whether a digest has the size that a session's may have.
-fn is_policy_size(size: usize) -> bool
+pub(crate) fn is_policy_size(size: usize) -> bool
     ensures { result ≡ has_policy_size size }
 {
     size == 32 || size == 48
 }
 
 /// Seal.
-pub(crate) fn sealed(parts: &mut Parts, policy: &Digest, secret: &Small) -> Result<Response, Memory>
-    ensures ok { IfOk result (λ answer. (answer, parts.new) ≡ seal policy.now secret.now parts.old) }
-    ensures err { OnErr result (parts.new ≡ parts.old) }
+pub(crate) fn sealed(held: &mut Held, policy: &Digest, secret: &Small) -> Result<Response, Memory>
+    ensures ok { IfOk result (λ answer. (answer, parts_of held.new) ≡ seal policy.now secret.now (parts_of held.old)) }
+    ensures err { OnErr result (parts_of held.new ≡ parts_of held.old) }
     ensures bound { length secret.now ≤ 128 }
 {
     if secret.as_slice().is_empty() {
@@ -55,34 +57,34 @@ pub(crate) fn sealed(parts: &mut Parts, policy: &Digest, secret: &Small) -> Resu
     if !is_policy_size(policy.as_slice().len()) {
         return Ok(Response::Refused(Refusal::Value));
     }
-    if parts.objects.len() >= OBJECTS {
+    if held.objects.len() >= OBJECTS {
         return Ok(Response::Refused(Refusal::ObjectsFull));
     }
-    if parts.next_object >= OBJECT_NUMBERS {
+    if held.next_object >= OBJECT_NUMBERS {
         return Ok(Response::Refused(Refusal::HandlesEnd));
     }
-    let handle = FIRST_OBJECT + parts.next_object;
+    let handle = FIRST_OBJECT + held.next_object;
     let object = Object {
         handle,
         policy: *policy,
         secret: *secret,
     };
-    parts.objects.push(object)?;
-    parts.next_object += 1;
+    held.objects.push(object)?;
+    held.next_object += 1;
     Ok(Response::Object(handle))
 }
 
 /// Unseal.
-pub(crate) fn unsealed(parts: &Parts, number: u32, handle: u32) -> Response
-    ensures { (result, parts.now) ≡ unseal number handle parts.now }
+pub(crate) fn unsealed(held: &Held, number: u32, handle: u32) -> Response
+    ensures { (result, parts_of held.now) ≡ unseal number handle (parts_of held.now) }
 {
-    let Some(session) = find_session(parts.sessions.as_slice(), number) else {
+    let Some(session) = find_session(held.sessions.as_slice(), number) else {
         return Response::Refused(Refusal::Handle(number));
     };
-    let Some(object) = find_object(parts.objects.as_slice(), handle) else {
+    let Some(object) = find_object(held.objects.as_slice(), handle) else {
         return Response::Refused(Refusal::Handle(handle));
     };
-    let now = parts.update_counter;
+    let now = held.update_counter;
     if let Some(noted) = noted_before(session.noted, now) {
         return Response::Refused(Refusal::PcrChanged { noted, now });
     }

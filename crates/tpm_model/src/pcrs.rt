@@ -1,17 +1,19 @@
 //! The PCR values of a state, and the commands on them.
-ghost use Rattle.std.specs.Prelude.{◌≡◌, ◌+◌, ◌*◌, ◌<◌, ◌≤◌, true, ◌++◌, length, take, IfOk, OnOk, IfSome};
+ghost use Rattle.std.specs.Prelude.{◌≡◌, ◌+◌, ◌*◌, ◌<◌, ◌≤◌, true, ◌++◌, length, take};
 ghost use Rattle.hash_bank.specs.Hash.{size_in};
 ghost use Rattle.hash_bank.specs.Banks.{has_bank};
 ghost use Rattle.hash_bank.specs.Digests.{digest_at};
-ghost use Rattle.tpm_model.specs.Fresh.{starts_from, starts_if, start_values};
 ghost use Rattle.policy_digest.specs.Policies.{IsPolicyHash};
-ghost use Rattle.tpm_model.specs.PcrCommands.{pcr_extend, pcr_read};
-ghost use Rattle.tpm_model.specs.SessionCommands.{present_digest};
-ghost use Rattle.tpm_model.specs.Pcrs.{banks_before, place_of, pcr_of, values_of, chosen, extended_in, after_extend, HasValues};
+ghost use Rattle.tpm_model.specs.Held.{parts_of};
+ghost use Rattle.tpm_model.specs.PcrCommands.{is_start_locality as start_locality_of, pcr_extend, pcr_read, restart};
+ghost use Rattle.tpm_model.specs.StartValues.{starts_from, starts_if, start_values};
+ghost use Rattle.tpm_model.specs.Pcrs.{present_digest_in, bank_count as count_of_banks, banks_before, place_of, pcr_of, values_of, chosen, extended_in, after_extend, HasValues};
 
-use crate::{Counter, Parts, Refusal, Response};
+use crate::held::Held;
+use crate::pcr_values::PcrValues;
+use crate::{Counter, Refusal, Response};
 use hash_bank::{Bank, Banks, Digest, Digests, extend, start};
-use pl_base::{List, Memory};
+use pl_base::List;
 use policy_digest::values_digest_in;
 use std::alloc::Global;
 
@@ -32,6 +34,16 @@ fn present_before(banks: Banks, bank: Bank) -> usize
         Bank::Sha384 => sha1 + sha256,
         Bank::Sha512 => sha1 + sha256 + sha384,
     }
+}
+
+/// How many banks are present.
+pub(crate) fn bank_count(banks: Banks) -> usize
+    ensures { result ≡ count_of_banks banks }
+{
+    usize::from(banks.sha1)
+        + usize::from(banks.sha256)
+        + usize::from(banks.sha384)
+        + usize::from(banks.sha512)
 }
 
 /// Where the value of a PCR stands.
@@ -55,7 +67,7 @@ pub(crate) fn pcr_value(banks: Banks, pcrs: &[Digest], bank: Bank, pcr: u8) -> O
 }
 
 /// Extends the PCR in one bank, where it is present and there is a digest for it.
-fn extend_in(banks: Banks, pcrs: &mut List<Digest>, bank: Bank, pcr: u8, digests: &Digests)
+fn extend_in(banks: Banks, pcrs: &mut PcrValues, bank: Bank, pcr: u8, digests: &Digests)
     requires { HasValues banks pcrs.old }
     ensures value { pcrs.new ≡ extended_in banks pcr (digest_at digests.now bank) bank pcrs.old }
     ensures values { HasValues banks pcrs.new }
@@ -66,11 +78,11 @@ fn extend_in(banks: Banks, pcrs: &mut List<Digest>, bank: Bank, pcr: u8, digests
     let Some(digest) = digests.get(bank) else {
         return;
     };
-    pcrs.set(place(banks, bank, pcr), extend(bank, &old, &digest));
+    pcrs.set(place(banks, bank, pcr), &extend(bank, &old, &digest));
 }
 
 /// Extends the PCR in each present bank with a digest.
-fn extend_all(banks: Banks, pcrs: &mut List<Digest>, pcr: u8, digests: &Digests)
+fn extend_all(banks: Banks, pcrs: &mut PcrValues, pcr: u8, digests: &Digests)
     requires { HasValues banks pcrs.old }
     ensures value { pcrs.new ≡ after_extend banks pcr digests.now pcrs.old }
     ensures values { HasValues banks pcrs.new }
@@ -82,29 +94,29 @@ fn extend_all(banks: Banks, pcrs: &mut List<Digest>, pcr: u8, digests: &Digests)
 }
 
 /// PcrExtend.
-pub(crate) fn pcr_extended(parts: &mut Parts, pcr: u8, digests: &Digests) -> Response
-    requires { HasValues parts.old.banks parts.old.pcrs }
-    ensures { (result, parts.new) ≡ pcr_extend pcr digests.now parts.old }
+pub(crate) fn pcr_extended(held: &mut Held, pcr: u8, digests: &Digests) -> Response
+    requires { HasValues held.old.banks held.old.pcrs }
+    ensures { (result, parts_of held.new) ≡ pcr_extend pcr digests.now (parts_of held.old) }
 {
     if usize::from(pcr) >= PCRS {
         return Response::Refused(Refusal::Value);
     }
-    if parts.update_counter == u32::MAX {
+    if held.update_counter == u32::MAX {
         return Response::Refused(Refusal::CounterEnd(Counter::Update));
     }
-    extend_all(parts.banks, &mut parts.pcrs, pcr, digests);
-    parts.update_counter += 1;
+    extend_all(held.banks, &mut held.pcrs, pcr, digests);
+    held.update_counter += 1;
     Response::Done
 }
 
 /// PcrRead.
-pub(crate) fn pcr_answer(parts: &Parts, bank: Bank, pcr: u8) -> Response
-    ensures { (result, parts.now) ≡ pcr_read bank pcr parts.now }
+pub(crate) fn pcr_answer(held: &Held, bank: Bank, pcr: u8) -> Response
+    ensures { (result, parts_of held.now) ≡ pcr_read bank pcr (parts_of held.now) }
 {
     if usize::from(pcr) >= PCRS {
         return Response::Refused(Refusal::Value);
     }
-    match pcr_value(parts.banks, parts.pcrs.as_slice(), bank, pcr) {
+    match pcr_value(held.banks, held.pcrs.as_slice(), bank, pcr) {
         Some(value) => Response::Pcr(value),
         None => Response::Refused(Refusal::BankAbsent(bank)),
     }
@@ -141,51 +153,74 @@ fn chosen_of(pcrs: u32, values: &[Digest]) -> ([Digest; 24], usize)
 }
 
 /// The digest of the mask's present values in a present bank, under the hash.
-pub(crate) fn present_values_digest(parts: &Parts, hash: Bank, bank: Bank, pcrs: u32) -> Digest
-    requires values { HasValues parts.now.banks parts.now.pcrs }
-    requires present { has_bank parts.now.banks bank ≡ true }
+pub(crate) fn present_values_digest(
+    banks: Banks,
+    values: &[Digest],
+    hash: Bank,
+    bank: Bank,
+    pcrs: u32,
+) -> Digest
+    requires values { HasValues banks values.now }
+    requires present { has_bank banks bank ≡ true }
     requires hash { IsPolicyHash hash }
-    ensures value { result ≡ present_digest hash bank pcrs parts.now }
+    ensures value { result ≡ present_digest_in hash bank pcrs banks values.now }
     ensures size { length result ≡ size_in hash }
 {
-    let values = bank_values(parts.banks, parts.pcrs.as_slice(), bank);
-    let (room, count) = chosen_of(pcrs, values);
+    let (room, count) = chosen_of(pcrs, bank_values(banks, values, bank));
     values_digest_in(hash, &room[..count])
 }
 
-/// Puts the start values of the bank's PCRs at the end, where it is present.
-fn push_started(values: &mut List<Digest>, bank: Bank, locality: u8) -> Result<(), Memory>
-    ensures { OnOk result (values.new ≡ values.old ++ starts_from bank locality 0 24) }
+/// Puts the start values of the bank's PCRs at the end.
+fn push_started(values: &mut PcrValues, bank: Bank, locality: u8)
+    requires { length values.old ≤ 72 }
+    ensures value { values.new ≡ values.old ++ starts_from bank locality 0 24 }
+    ensures count { length values.new ≡ length values.old + 24 }
 {
     for pcr in 0..24u8 {
-        values.push(start(bank, pcr, locality))?;
+        values.push(&start(bank, pcr, locality));
     }
-    Ok(())
 }
 
 /// Puts the start values of the bank's PCRs at the end, where it is present.
-fn push_started_if(
-    values: &mut List<Digest>,
-    present: bool,
-    bank: Bank,
-    locality: u8,
-) -> Result<(), Memory>
-    ensures { OnOk result (values.new ≡ values.old ++ starts_if present bank locality) }
+fn push_started_if(values: &mut PcrValues, present: bool, bank: Bank, locality: u8)
+    requires { length values.old ≤ 72 }
+    ensures value { values.new ≡ values.old ++ starts_if present bank locality }
+    ensures count { length values.new ≤ length values.old + 24 }
 {
     if present {
-        push_started(values, bank, locality)?;
+        push_started(values, bank, locality);
     }
-    Ok(())
 }
 
 /// The values of the present banks after a start at the locality.
-pub(crate) fn started(alloc: Global, banks: Banks, locality: u8) -> Result<List<Digest>, Memory>
-    ensures { IfOk result (λ values. values ≡ start_values banks locality) }
+pub(crate) fn started(banks: Banks, locality: u8) -> PcrValues
+    ensures { result ≡ start_values banks locality }
 {
-    let mut values = List::new(alloc);
-    push_started_if(&mut values, banks.sha1, Bank::Sha1, locality)?;
-    push_started_if(&mut values, banks.sha256, Bank::Sha256, locality)?;
-    push_started_if(&mut values, banks.sha384, Bank::Sha384, locality)?;
-    push_started_if(&mut values, banks.sha512, Bank::Sha512, locality)?;
-    Ok(values)
+    let mut values = PcrValues::new();
+    push_started_if(&mut values, banks.sha1, Bank::Sha1, locality);
+    push_started_if(&mut values, banks.sha256, Bank::Sha256, locality);
+    push_started_if(&mut values, banks.sha384, Bank::Sha384, locality);
+    push_started_if(&mut values, banks.sha512, Bank::Sha512, locality);
+    values
+}
+
+/// Whether a machine may start at the locality.
+pub(crate) fn is_start_locality(locality: u8) -> bool
+    ensures { result ≡ start_locality_of locality }
+{
+    locality == 0 || locality == 3 || locality == 4
+}
+
+/// Restart. It takes no memory.
+pub(crate) fn restarted(alloc: Global, held: &mut Held, locality: u8, banks: Banks) -> Response
+    ensures { (result, parts_of held.new) ≡ restart locality banks (parts_of held.old) }
+{
+    if !is_start_locality(locality) || bank_count(banks) == 0 {
+        return Response::Refused(Refusal::Value);
+    }
+    held.banks = banks;
+    held.pcrs = started(banks, locality);
+    held.update_counter = 0;
+    held.sessions = List::new(alloc);
+    Response::Done
 }

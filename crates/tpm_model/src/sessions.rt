@@ -4,11 +4,13 @@ ghost use Rattle.std.specs.Option.{ForSome};
 ghost use Rattle.tpm_model.specs.Pcrs.{HasValues};
 ghost use Rattle.tpm_model.specs.Sessions.{is_session, is_session_hash as allowed, session_place as place_of_session, session_at};
 ghost use Rattle.tpm_model.specs.SessionCommands.{start_session, noted_before as noted_before_of, with_pcrs, policy_pcr, policy_get_digest, flush_session};
-ghost use Rattle.tpm_model.specs.Rules.{HasRules};
+ghost use Rattle.tpm_model.specs.Held.{parts_of};
+ghost use Rattle.tpm_model.specs.Shape.{HasShape, IsSessionShape};
 ghost use Rattle.tpm_model.specs.declared.sessions.Session.{Session as SessionValue};
 
+use crate::held::Held;
 use crate::pcrs::present_values_digest;
-use crate::{Parts, Refusal, Response, Trail, TrailEntry};
+use crate::{Refusal, Response, Trail, TrailEntry};
 use hash_bank::{Bank, Digest};
 use pl_base::{List, Memory};
 use policy_digest::policy_pcr_in;
@@ -80,22 +82,22 @@ pub(crate) fn find_session(sessions: &[Session], handle: u32) -> Option<&Session
 /// StartSession. It reserves the session's whole trail.
 pub(crate) fn session_started(
     alloc: Global,
-    parts: &mut Parts,
+    held: &mut Held,
     hash: Bank,
 ) -> Result<Response, Memory>
-    ensures ok { IfOk result (λ answer. (answer, parts.new) ≡ start_session hash parts.old) }
-    ensures err { OnErr result (parts.new ≡ parts.old) }
+    ensures ok { IfOk result (λ answer. (answer, parts_of held.new) ≡ start_session hash (parts_of held.old)) }
+    ensures err { OnErr result (parts_of held.new ≡ parts_of held.old) }
 {
     if !is_session_hash(hash) {
         return Ok(Response::Refused(Refusal::Value));
     }
-    if parts.sessions.len() >= OPEN_SESSIONS {
+    if held.sessions.len() >= OPEN_SESSIONS {
         return Ok(Response::Refused(Refusal::SessionsFull));
     }
-    if parts.next_session >= SESSION_NUMBERS {
+    if held.next_session >= SESSION_NUMBERS {
         return Ok(Response::Refused(Refusal::HandlesEnd));
     }
-    let handle = FIRST_SESSION + parts.next_session;
+    let handle = FIRST_SESSION + held.next_session;
     let session = Session {
         hash,
         handle,
@@ -103,8 +105,8 @@ pub(crate) fn session_started(
         noted: None,
         trail: Trail::new(alloc)?,
     };
-    parts.sessions.push(session)?;
-    parts.next_session += 1;
+    held.sessions.push(session)?;
+    held.next_session += 1;
     Ok(Response::Session(handle))
 }
 
@@ -140,56 +142,82 @@ fn note(
 /// PolicyPcr.
 pub(crate) fn pcrs_bound(
     alloc: Global,
-    parts: &mut Parts,
+    held: &mut Held,
     handle: u32,
     bank: Bank,
     pcrs: u32,
 ) -> Response
-    requires { HasRules parts.old }
-    ensures { (result, parts.new) ≡ policy_pcr handle bank pcrs parts.old }
+    requires { HasShape (parts_of held.old) }
+    ensures { (result, parts_of held.new) ≡ policy_pcr handle bank pcrs (parts_of held.old) }
 {
-    let place = session_place(parts.sessions.as_slice(), handle);
-    let Some(session) = parts.sessions.as_slice().get(place) else {
+    let place = session_place(held.sessions.as_slice(), handle);
+    let Some(session) = held.sessions.as_slice().get(place) else {
         return Response::Refused(Refusal::Handle(handle));
     };
     if pcrs >= MASKS {
         return Response::Refused(Refusal::Value);
     }
-    if !parts.banks.has(bank) {
+    if !held.banks.has(bank) {
         return Response::Refused(Refusal::BankAbsent(bank));
     }
-    let now = parts.update_counter;
+    let now = held.update_counter;
     if let Some(noted) = noted_before(session.noted, now) {
         return Response::Refused(Refusal::PcrChanged { noted, now });
     }
     if session.trail.as_slice().len() >= TRAIL_ENTRIES {
         return Response::Refused(Refusal::TrailFull);
     }
-    let values = present_values_digest(parts, session.hash, bank, pcrs);
+    let values = present_values_digest(held.banks, held.pcrs.as_slice(), session.hash, bank, pcrs);
     let digest = policy_pcr_in(session.hash, &session.digest, bank, pcrs, &values);
     let entry = TrailEntry::Pcr { bank, pcrs, values };
-    note(alloc, &mut parts.sessions, place, &digest, now, &entry);
+    note(alloc, &mut held.sessions, place, &digest, now, &entry);
     Response::Done
 }
 
 /// PolicyGetDigest.
-pub(crate) fn digest_answer(parts: &Parts, handle: u32) -> Response
-    ensures { (result, parts.now) ≡ policy_get_digest handle parts.now }
+pub(crate) fn digest_answer(held: &Held, handle: u32) -> Response
+    ensures { (result, parts_of held.now) ≡ policy_get_digest handle (parts_of held.now) }
 {
-    match find_session(parts.sessions.as_slice(), handle) {
+    match find_session(held.sessions.as_slice(), handle) {
         Some(session) => Response::PolicyDigest(session.digest),
         None => Response::Refused(Refusal::Handle(handle)),
     }
 }
 
 /// FlushSession.
-pub(crate) fn session_flushed(parts: &mut Parts, handle: u32) -> Response
-    ensures { (result, parts.new) ≡ flush_session handle parts.old }
+pub(crate) fn session_flushed(held: &mut Held, handle: u32) -> Response
+    ensures { (result, parts_of held.new) ≡ flush_session handle (parts_of held.old) }
 {
-    let place = session_place(parts.sessions.as_slice(), handle);
-    if place >= parts.sessions.len() {
+    let place = session_place(held.sessions.as_slice(), handle);
+    if place >= held.sessions.len() {
         return Response::Refused(Refusal::Handle(handle));
     }
-    let _ended = parts.sessions.remove(place);
+    let _ended = held.sessions.remove(place);
     Response::Done
+}
+
+impl Session {
+    /// An equal session.
+    fn copy(&self, alloc: Global) -> Result<Session, Memory>
+        ensures { IfOk result (λ session. session ≡ self.now) }
+    {
+        Ok(Session {
+            hash: self.hash,
+            handle: self.handle,
+            digest: self.digest,
+            noted: self.noted,
+            trail: self.trail.copy(alloc)?,
+        })
+    }
+}
+
+/// The same sessions.
+pub(crate) fn copied_sessions(alloc: Global, sessions: &[Session]) -> Result<List<Session>, Memory>
+    ensures { IfOk result (λ copies. copies ≡ sessions.now) }
+{
+    let mut copies = List::new(alloc);
+    for session in sessions {
+        copies.push(session.copy(alloc)?)?;
+    }
+    Ok(copies)
 }

@@ -1,76 +1,57 @@
 //! The state of a TPM, which keeps its rules.
-ghost use Rattle.std.specs.Prelude.{◌≡◌, ◌<◌, ◌≤◌, true, IfOk, OnErr};
+ghost use Rattle.std.specs.Prelude.{◌≡◌, ◌≤◌, true, None, Some, IfOk, IfErr, OnErr};
+ghost use Rattle.tpm_model.specs.Fits.{fits};
+ghost use Rattle.tpm_model.specs.Held.{parts_of};
 ghost use Rattle.tpm_model.specs.Pcrs.{bank_count, pcr_of};
 ghost use Rattle.tpm_model.specs.Respond.{is_offered, respond};
 ghost use Rattle.tpm_model.specs.Fresh.{fresh_parts};
-ghost use Rattle.tpm_model.specs.Rules.{HasRules};
+ghost use Rattle.tpm_model.specs.Rules.{HasRules, broken_rule as broken_rule_of};
+ghost use Rattle.tpm_model.specs.Shape.{HasShape};
 
+use crate::held::Held;
 use crate::object::{sealed, unsealed};
-use crate::pcrs::{pcr_answer, pcr_extended, pcr_value, started};
-use crate::sessions::{digest_answer, pcrs_bound, session_flushed, session_started};
-use crate::{Command, Object, Parts, Refusal, Response, Session};
+use crate::pcr_values::PcrValues;
+use crate::pcrs::{pcr_answer, pcr_extended, pcr_value, restarted, started};
+use crate::rules::broken_rule;
+use crate::sessions::{
+    copied_sessions, digest_answer, pcrs_bound, session_flushed, session_started,
+};
+use crate::{Command, Object, Parts, Refusal, Response, Session, StateRule};
 use hash_bank::{Bank, Banks, Digest};
 use nv_index::Index;
 use pl_base::{List, Memory};
 use std::alloc::Global;
 use std::marker::Model;
 
-/// A rule that every state keeps, in the order in which a state from outside is tested.
-#[derive(Clone, Copy, Debug, PartialEq, Eq)]
-pub enum StateRule {
-    /// At least one bank is present, and no other than the four.
-    Banks,
-    /// The numbers of the next session and of the next object are within their range.
-    Counters,
-    /// The sessions' handles ascend, below the next.
-    SessionOrder,
-    /// A session's digest is the fold of its trail, under its hash.
-    Fold,
-    /// Each list of PolicyOR holds the digest before it.
-    OrMember,
-    /// A session that looked at PCRs at the present counter saw their present values.
-    PcrNow,
-    /// A session that read an index read what it held then.
-    NvNow,
-    /// A counter is noted exactly where the session looked at PCRs.
-    Noted,
-    /// The indices' handles ascend, and their writes have numbers of their own.
-    IndexOrder,
-    /// An index has the allowed attributes and size.
-    IndexAttributes,
-    /// The objects' handles ascend, below the next.
-    ObjectOrder,
-    /// A secret has 1 to 128 bytes.
-    Secret,
-}
-
 /// The state of a TPM. Contracts see its parts, which keep the rules.
 #[derive(Debug, Drop)]
 pub struct State {
-    parts: Parts,
+    held: Held,
 }
 
 impl Model for State {
     ghost use Rattle.tpm_model.specs.declared.parts.Parts.{Parts as PartsValue};
+    ghost use Rattle.tpm_model.specs.Held.{parts_of};
     ghost use Rattle.tpm_model.specs.Rules.{HasRules};
 
     ghost Value = { PartsValue };
 
-    ghost view = { λ a. a.parts };
+    ghost view = { λ a. parts_of a.held };
 
-    ghost invariant = { λ a. HasRules a.parts };
+    ghost invariant = { λ a. HasRules (parts_of a.held) };
 }
 
 impl State {
-    /// A TPM that was never used: the given banks, at least one, after a start at locality 0.
-    pub fn fresh(alloc: Global, banks: Banks) -> Result<State, Memory>
+    /// A TPM that was never used: the given banks, at least one, after a start at locality 0. It
+    /// takes no memory.
+    pub fn fresh(alloc: Global, banks: Banks) -> State
         requires { 1 ≤ bank_count banks }
-        ensures { IfOk result (λ state. state ≡ fresh_parts banks) }
+        ensures { result ≡ fresh_parts banks }
     {
-        Ok(State {
-            parts: Parts {
+        State {
+            held: Held {
                 banks,
-                pcrs: started(alloc, banks, 0)?,
+                pcrs: started(banks, 0),
                 update_counter: 0,
                 next_session: 0,
                 write_counter: 0,
@@ -79,6 +60,53 @@ impl State {
                 indices: List::new(alloc),
                 objects: List::new(alloc),
             },
+        }
+    }
+
+    /// The state with these parts. It takes no memory.
+    ///
+    /// # Errors
+    ///
+    /// The first rule that the parts break.
+    pub fn from_parts(parts: Parts) -> Result<State, StateRule>
+        requires { HasShape parts }
+        ensures ok { IfOk result (λ state. (state ≡ parts) × (broken_rule_of parts ≡ None)) }
+        ensures err { IfErr result (λ rule. broken_rule_of parts ≡ Some rule) }
+    {
+        if let Some(rule) = broken_rule(&parts) {
+            return Err(rule);
+        }
+        Ok(State {
+            held: Held {
+                banks: parts.banks,
+                pcrs: PcrValues::from_slice(parts.pcrs.as_slice()),
+                update_counter: parts.update_counter,
+                next_session: parts.next_session,
+                write_counter: parts.write_counter,
+                next_object: parts.next_object,
+                sessions: parts.sessions,
+                indices: parts.indices,
+                objects: parts.objects,
+            },
+        })
+    }
+
+    /// An equal state.
+    pub fn copy(&self, alloc: Global) -> Result<State, Memory>
+        ensures { IfOk result (λ state. state ≡ self.now) }
+    {
+        Ok(State {
+            held: Held {
+                banks: self.held.banks,
+                pcrs: PcrValues::from_slice(self.held.pcrs.as_slice()),
+                update_counter: self.held.update_counter,
+                next_session: self.held.next_session,
+                write_counter: self.held.write_counter,
+                next_object: self.held.next_object,
+                sessions: copied_sessions(alloc, self.held.sessions.as_slice())?,
+                indices: List::from_vec(Vec::from_slice(alloc, self.held.indices.as_slice())?),
+                objects: List::from_vec(Vec::from_slice(alloc, self.held.objects.as_slice())?),
+            },
         })
     }
 
@@ -86,89 +114,89 @@ impl State {
     pub fn banks(&self) -> Banks
         ensures { result ≡ self.now.banks }
     {
-        self.parts.banks
+        self.held.banks
     }
 
     /// The value of a PCR, or None where its bank isn't present or the PCR is above 23.
     pub fn pcr(&self, bank: Bank, pcr: u8) -> Option<Digest>
         ensures { result ≡ pcr_of self.now.banks self.now.pcrs bank pcr }
     {
-        pcr_value(self.parts.banks, self.parts.pcrs.as_slice(), bank, pcr)
+        pcr_value(self.held.banks, self.held.pcrs.as_slice(), bank, pcr)
     }
 
     /// The extends since the restart.
     pub fn update_counter(&self) -> u32
         ensures { result ≡ self.now.update_counter }
     {
-        self.parts.update_counter
+        self.held.update_counter
     }
 
     /// The writes of NV indices since the TPM was made.
     pub fn write_counter(&self) -> u32
         ensures { result ≡ self.now.write_counter }
     {
-        self.parts.write_counter
+        self.held.write_counter
     }
 
     /// The number of the next session.
     pub fn next_session(&self) -> u32
         ensures { result ≡ self.now.next_session }
     {
-        self.parts.next_session
+        self.held.next_session
     }
 
     /// The number of the next object.
     pub fn next_object(&self) -> u32
         ensures { result ≡ self.now.next_object }
     {
-        self.parts.next_object
+        self.held.next_object
     }
 
     /// The open sessions, by rising handles.
     pub fn sessions(&self) -> &[Session]
         ensures { result.now ≡ self.now.sessions }
     {
-        self.parts.sessions.as_slice()
+        self.held.sessions.as_slice()
     }
 
     /// The NV indices, by rising handles.
     pub fn indices(&self) -> &[Index]
         ensures { result.now ≡ self.now.indices }
     {
-        self.parts.indices.as_slice()
+        self.held.indices.as_slice()
     }
 
     /// The sealed objects, by rising handles.
     pub fn objects(&self) -> &[Object]
         ensures { result.now ≡ self.now.objects }
     {
-        self.parts.objects.as_slice()
+        self.held.objects.as_slice()
     }
 }
 
 /// One command on plain parts, which keep their rules.
-fn step_parts(alloc: Global, parts: &mut Parts, command: &Command) -> Result<Response, Memory>
-    requires rules { HasRules parts.old }
+fn step_held(alloc: Global, held: &mut Held, command: &Command) -> Result<Response, Memory>
+    requires rules { HasRules (parts_of held.old) }
     requires offered { is_offered command.now ≡ true }
-    ensures ok { IfOk result (λ answer. (answer, parts.new) ≡ respond command.now parts.old) }
-    ensures err { OnErr result (parts.new ≡ parts.old) }
-    ensures rules { HasRules parts.new }
+    ensures ok { IfOk result (λ answer. (answer, parts_of held.new) ≡ respond command.now (parts_of held.old)) }
+    ensures err { OnErr result (parts_of held.new ≡ parts_of held.old) }
+    ensures rules { HasRules (parts_of held.new) }
 {
     match *command {
-        Command::PcrExtend { pcr, digests } => Ok(pcr_extended(parts, pcr, &digests)),
-        Command::PcrRead { bank, pcr } => Ok(pcr_answer(parts, bank, pcr)),
-        Command::StartSession { hash } => session_started(alloc, parts, hash),
+        Command::Restart { locality, banks } => Ok(restarted(alloc, held, locality, banks)),
+        Command::PcrExtend { pcr, digests } => Ok(pcr_extended(held, pcr, &digests)),
+        Command::PcrRead { bank, pcr } => Ok(pcr_answer(held, bank, pcr)),
+        Command::StartSession { hash } => session_started(alloc, held, hash),
         Command::PolicyPcr {
             session,
             bank,
             pcrs,
-        } => Ok(pcrs_bound(alloc, parts, session, bank, pcrs)),
-        Command::PolicyGetDigest { session } => Ok(digest_answer(parts, session)),
-        Command::FlushSession { session } => Ok(session_flushed(parts, session)),
-        Command::Seal { policy, secret } => sealed(parts, &policy, &secret),
-        Command::Unseal { session, handle } => Ok(unsealed(parts, session, handle)),
-        Command::Restart { .. }
-        | Command::PolicyOr { .. }
+        } => Ok(pcrs_bound(alloc, held, session, bank, pcrs)),
+        Command::PolicyGetDigest { session } => Ok(digest_answer(held, session)),
+        Command::FlushSession { session } => Ok(session_flushed(held, session)),
+        Command::Seal { policy, secret } => sealed(held, &policy, &secret),
+        Command::Unseal { session, handle } => Ok(unsealed(held, session, handle)),
+        Command::PolicyOr { .. }
         | Command::PolicyAuthorizeNv { .. }
         | Command::NvDefine { .. }
         | Command::NvUndefine { .. }
@@ -179,13 +207,14 @@ fn step_parts(alloc: Global, parts: &mut Parts, command: &Command) -> Result<Res
     }
 }
 
-/// Executes a command. After a refusal or want of memory the state is as before; only StartSession
-/// and Seal take memory.
+/// Executes a command. The answer fits it. After a refusal or want of memory the state is as before;
+/// only StartSession and Seal take memory.
 pub fn step(alloc: Global, state: &mut State, command: &Command) -> Result<Response, Memory>
     requires { is_offered command.now ≡ true }
     ensures ok { IfOk result (λ answer. (answer, state.new) ≡ respond command.now state.old) }
     ensures err { OnErr result (state.new ≡ state.old) }
     ensures rules { HasRules state.old × HasRules state.new }
+    ensures fitting { IfOk result (λ answer. fits command.now answer ≡ true) }
 {
-    step_parts(alloc, &mut state.parts, command)
+    step_held(alloc, &mut state.held, command)
 }

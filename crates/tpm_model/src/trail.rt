@@ -60,6 +60,15 @@ impl Trail {
         })
     }
 
+    /// An equal trail, with room for 128 entries.
+    pub fn copy(&self, alloc: Global) -> Result<Trail, Memory>
+        ensures { IfOk result (λ trail. trail ≡ self.now) }
+    {
+        let mut entries = Vec::with_capacity(alloc, ROOM)?;
+        entries.extend_from_slice(self.entries.as_slice())?;
+        Ok(Trail { entries })
+    }
+
     /// Puts the entry at the end. It takes no memory.
     pub fn push(&mut self, entry: TrailEntry)
         requires { length self.old < 128 }

@@ -15,7 +15,7 @@ returns-in_err-response-clause-told g c = λ s x now e live ready.
 
 pub returns-in_err-response-clause-stored : goal.returns-in_err-response-clause-stored
 returns-in_err-response-clause-stored g c = λ s x now e kept live ready stored.
-    let m = reads_value c.args.literal.now.bank c.args.literal.now.pcr now x s c.requires.pcr e in
+    let m = reads_value c.args.literal.now.bank c.args.literal.now.pcr now x s c.requires.literal.pcr e in
     let now : c.from_residual.result ≡ Err c.in_err-response.field-0.0 = search rules in
     let was : c.ask.result ≡ Err c.in_err-response.field-0.0 = c.in_err-response.was in
     stores_err s (pcr_read c.args.literal.now.bank c.args.literal.now.pcr (with_open x s)) _ c.ask.result c.from_residual.result c.in_err-response.field-0.0 _ m.1 was now
@@ -23,11 +23,11 @@ returns-in_err-response-clause-stored g c = λ s x now e kept live ready stored.
 
 pub returns-clause-told : goal.returns-clause-told
 returns-clause-told g c = λ s x now e live ready.
-    told_ok value_read (pcr_read c.args.literal.now.bank c.args.literal.now.pcr (with_open x s)) _ _ c.in_ok-response.response c.pcr_value.result _ _ (reads_value c.args.literal.now.bank c.args.literal.now.pcr now x s c.requires.pcr e) (c.in_ok-response.ensures.told (with_open x s) live ready) c.pcr_value.ensures.value
+    told_ok value_read (pcr_read c.args.literal.now.bank c.args.literal.now.pcr (with_open x s)) _ _ c.in_ok-response.response c.pcr_value.result _ _ (reads_value c.args.literal.now.bank c.args.literal.now.pcr now x s c.requires.literal.pcr e) (c.in_ok-response.ensures.told (with_open x s) live ready) c.pcr_value.ensures.value
 
 pub returns-clause-stored : goal.returns-clause-stored
 returns-clause-stored g c = λ s x now e kept live ready stored.
-    let m = reads_value c.args.literal.now.bank c.args.literal.now.pcr now x s c.requires.pcr e in
+    let m = reads_value c.args.literal.now.bank c.args.literal.now.pcr now x s c.requires.literal.pcr e in
     let was : c.ask.result ≡ Ok c.in_ok-response.response = c.in_ok-response.was in
     stores_ok s (pcr_read c.args.literal.now.bank c.args.literal.now.pcr (with_open x s)) _ c.ask.result c.in_ok-response.response c.pcr_value.result _ m.1 was
     (c.ask.ensures.stored s (with_open x s) live ready stored (kept) (kept_left s (pcr_read c.args.literal.now.bank c.args.literal.now.pcr (with_open x s)) _ m.1 (kept))) (kept)

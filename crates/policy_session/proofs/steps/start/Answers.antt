@@ -15,19 +15,19 @@ returns-in_err-response-clause-told g c = λ s live ready.
 
 pub returns-in_err-response-clause-stored : goal.returns-in_err-response-clause-stored
 returns-in_err-response-clause-stored g c = λ s h live ready stored.
-    let m = starts c.args.hash s c.requires in
+    let m = starts c.args.hash s c.requires.hash in
     let now : c.from_residual.result ≡ Err c.in_err-response.field-0.0 = search rules in
     let was : c.ask.result ≡ Err c.in_err-response.field-0.0 = c.in_err-response.was in
     stores_err s (start_session c.args.hash s) _ c.ask.result c.from_residual.result c.in_err-response.field-0.0 _ m.1 was now
-    (c.ask.ensures.stored s s live ready stored (kept_self s h) (kept_left s (start_session c.args.hash s) _ m.1 (kept_start c.args.hash s c.requires h)))
+    (c.ask.ensures.stored s s live ready stored (kept_self s h) (kept_left s (start_session c.args.hash s) _ m.1 (kept_start c.args.hash s c.requires.hash h)))
 
 pub returns-clause-told : goal.returns-clause-told
 returns-clause-told g c = λ s live ready.
-    told_ok started (start_session c.args.hash s) _ _ c.in_ok-response.response c.started.result _ _ (starts c.args.hash s c.requires) (c.in_ok-response.ensures.told s live ready) c.started.ensures.value
+    told_ok started (start_session c.args.hash s) _ _ c.in_ok-response.response c.started.result _ _ (starts c.args.hash s c.requires.hash) (c.in_ok-response.ensures.told s live ready) c.started.ensures.value
 
 pub returns-clause-stored : goal.returns-clause-stored
 returns-clause-stored g c = λ s h live ready stored.
-    let m = starts c.args.hash s c.requires in
+    let m = starts c.args.hash s c.requires.hash in
     let was : c.ask.result ≡ Ok c.in_ok-response.response = c.in_ok-response.was in
     stores_ok s (start_session c.args.hash s) _ c.ask.result c.in_ok-response.response c.started.result _ m.1 was
-    (c.ask.ensures.stored s s live ready stored (kept_self s h) (kept_left s (start_session c.args.hash s) _ m.1 (kept_start c.args.hash s c.requires h))) (kept_start c.args.hash s c.requires h)
+    (c.ask.ensures.stored s s live ready stored (kept_self s h) (kept_left s (start_session c.args.hash s) _ m.1 (kept_start c.args.hash s c.requires.hash h))) (kept_start c.args.hash s c.requires.hash h)

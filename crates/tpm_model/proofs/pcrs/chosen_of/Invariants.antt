@@ -1,4 +1,4 @@
-use Rattle.std.proofs.Common.{◌≡◌, ◌≤◌, ℕ, ◌++◌, length, take, drop}
+use Rattle.std.proofs.Common.{◌≡◌, ◌≤◌, ◌++◌, take, drop}
 use Rattle.tpm_model.specs.Pcrs.{chosen}
 use Rattle.tpm_model.proofs.pcrs.chosen_of.Given as goal
 
