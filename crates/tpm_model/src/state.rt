@@ -124,6 +124,13 @@ impl State {
         pcr_value(self.held.banks, self.held.pcrs.as_slice(), bank, pcr)
     }
 
+    /// For each present bank, in the order SHA-1, SHA-256, SHA-384, SHA-512, its 24 PCR values.
+    pub fn pcrs(&self) -> &[Digest]
+        ensures { result.now ≡ self.now.pcrs }
+    {
+        self.held.pcrs.as_slice()
+    }
+
     /// The extends since the restart.
     pub fn update_counter(&self) -> u32
         ensures { result ≡ self.now.update_counter }
