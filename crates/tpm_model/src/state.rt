@@ -126,7 +126,8 @@ impl State {
 
     /// For each present bank, in the order SHA-1, SHA-256, SHA-384, SHA-512, its 24 PCR values.
     pub fn pcrs(&self) -> &[Digest]
-        ensures { result.now ≡ self.now.pcrs }
+        ensures value { result.now ≡ self.now.pcrs }
+        ensures rules { HasRules self.now }
     {
         self.held.pcrs.as_slice()
     }

@@ -9,3 +9,5 @@ pub mod IndexLaws
 pub mod ObjectLaws
 pub mod LayoutLaws
 pub mod Lengths
+pub mod Shapes
+pub mod Decoded

@@ -1,14 +1,11 @@
 -- NV indices, as a state file has them.
-use Rattle.std.specs.Prelude.{◌≡◌, ℕ, ◌/◌, ◌%◌, ◌^◌, ◌<◌, ◌==◌, Bool, true, false, if◌then◌else◌, List, [], ◌∷◌, ◌++◌, length, Option, Some, None, Result, Ok, Err}
+use Rattle.std.specs.Prelude.{◌≡◌, ℕ, ◌^◌, ◌<◌, Bool, true, false, List, [], ◌∷◌, ◌++◌, length, Option, Some, None, Result, Ok, Err}
 use Rattle.std.specs.Int.{w16, w32, to_be_bytes}
 use Rattle.nv_index.specs.declared.index.Index.{Index}
 use Rattle.nv_index.specs.declared.index.Written.{Written}
+use Rattle.tpm_model.specs.Shape.{has_written}
 use Rattle.tpm_state.specs.declared.error.DecodeError.{DecodeError}
 use Rattle.tpm_state.specs.Field.{◌>>=◌, bytes_at, number_at}
-
--- whether the attributes have WRITTEN, bit 29 (TPM 2.0 Library Part 2, TPMA_NV)
-abbrev pub has_written : ℕ → Bool
-has_written attributes = attributes / 0x20000000 % 2 == 1
 
 -- ---- the text
 

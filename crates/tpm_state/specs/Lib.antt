@@ -5,3 +5,6 @@ pub mod Sessions
 pub mod Indices
 pub mod Objects
 pub mod Layout
+pub mod Spelling
+pub mod Decoding
+pub mod Storing

@@ -1,8 +1,9 @@
 //! NV indices.
 ghost use Rattle.std.specs.Prelude.{◌≡◌, ◌<◌, ◌≤◌, ◌^◌, ◌∷◌, [], ◌++◌, length, Option, OnOk, IfOk};
 ghost use Rattle.std.specs.List.{flat_map};
+ghost use Rattle.tpm_model.specs.Shape.{has_written as is_set};
 ghost use Rattle.tpm_state.specs.Field.{Gives, repeat_at, counted_at, counted_text};
-ghost use Rattle.tpm_state.specs.Indices.{has_written as is_set, written_text, index_text, written_at, index_at};
+ghost use Rattle.tpm_state.specs.Indices.{written_text, index_text, written_at, index_at};
 
 use crate::DecodeError;
 use crate::field::{digest_of, fault_at, put_u16, put_u32, read_bytes, read_u8, read_u16, read_u32};

@@ -64,7 +64,7 @@ pub(crate) fn read_layout(alloc: Global, bytes: &[u8]) -> Result<(u8, Parts), De
 }
 
 /// Writes the sessions, the indices and the objects.
-fn put_lists(
+pub(crate) fn put_lists(
     out: &mut Vec<u8>,
     sessions: &[Session],
     indices: &[Index],

@@ -2,9 +2,12 @@
 //! first broken rule, and the TPM that is kept in such a file.
 #![tactic(auto)]
 
+mod decoding;
+mod encoding;
 mod entries;
 mod error;
 mod field;
+mod file_tpm;
 mod header;
 mod indices;
 mod layout;
@@ -12,4 +15,7 @@ mod objects;
 mod sessions;
 mod version;
 
+pub use crate::decoding::decode;
+pub use crate::encoding::encode;
 pub use crate::error::DecodeError;
+pub use crate::file_tpm::FileTpm;

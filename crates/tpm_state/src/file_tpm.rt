@@ -1,0 +1,107 @@
+//! A TPM that is kept in a file.
+ghost use Rattle.std.specs.Prelude.{◌≡◌, ◌⊎◌, ◌≤◌, ◌↔◌, ℕ, Bool, true, false, Option, None, Some, is_some, is_ok, Ok, Err, IfOk, IfSome, length, MatchOption};
+ghost use Rattle.std.specs.FinMap.{get};
+ghost use Rattle.pl_base.specs.Faults.{HasCause};
+ghost use Rattle.pl_base.specs.FileMap.{FileMap};
+ghost use Rattle.tpm_model.specs.declared.parts.Parts.{Parts};
+ghost use Rattle.tpm_model.specs.Fits.{fits};
+ghost use Rattle.tpm_model.specs.Respond.{is_offered, respond};
+ghost use Rattle.tpm_model.specs.Rules.{HasRules};
+ghost use Rattle.tpm_device.specs.Stored.{Stored, Holds, BeginGives, ExecuteGives, ExecuteStores, stays_ready};
+ghost use Rattle.tpm_state.specs.declared.version.Version.TheVariants.{Two};
+ghost use Rattle.tpm_state.specs.Layout.{text_of};
+ghost use Rattle.tpm_state.specs.Decoding.{state_of};
+ghost use Rattle.tpm_state.specs.Storing.{most_bytes, stored_as, stored_by, stored_in, StateGives};
+
+use crate::{DecodeError, decode, encode};
+use hash_bank::Banks;
+use pl_base::{Files, Memory, Name, ReadError, ReplaceError};
+use std::alloc::Global;
+use tpm_device::{BeginError, ExecError, Tpm};
+use tpm_model::{Command, Response, State, step};
+
+/// The most bytes of a state file.
+const LIMIT: u64 = 16_777_216;
+
+/// A TPM whose state is kept in a file, and that has none of its own until it is made ready.
+#[derive(Debug, Drop)]
+pub struct FileTpm<F: Files> {
+    files: F,
+    path: Name,
+    live: Option<State>,
+}
+
+impl<F: Files> FileTpm<F> {
+    /// The TPM that is kept at the path. It isn't ready yet, and nothing is read.
+    pub fn new(files: F, path: Name) -> FileTpm<F>
+        ensures { result ≡ record { files = files; path = path; live = None } }
+    {
+        FileTpm {
+            files,
+            path,
+            live: None,
+        }
+    }
+
+    /// The files, as they are.
+    pub fn into_files(self) -> F
+        ensures { result ≡ self.files }
+    {
+        let FileTpm { files, .. } = self;
+        files
+    }
+}
+
+/// The state that a file's bytes hold.
+fn state_in(alloc: Global, bytes: &[u8]) -> Result<State, BeginError>
+    ensures { StateGives (stored_as (state_of bytes.now)) result }
+{
+    match decode(alloc, bytes) {
+        Ok(state) => Ok(state),
+        Err(DecodeError::Malformed(place)) => Err(BeginError::Malformed(place)),
+        Err(DecodeError::BadRule(rule)) => Err(BeginError::BadRule(rule)),
+        Err(DecodeError::Memory) => Err(BeginError::Memory),
+    }
+}
+
+/// The state that the file at the path stores.
+fn stored_state<F: Files>(files: &mut F, alloc: Global, path: &str) -> Result<State, BeginError>
+    ensures cause { HasCause (F.faults files.old) (F.faults files.new) (result ≡ Err BeginError.Failed) }
+    ensures told { (map : FileMap) → F.held files.old ≡ Some map → StateGives (stored_by (get map path.now)) result }
+    ensures same { F.held files.new ≡ F.held files.old }
+{
+    match files.read(alloc, path, LIMIT) {
+        Ok(bytes) => state_in(alloc, bytes.as_slice()),
+        Err(ReadError::Missing) => Ok(State::fresh(alloc, Banks::all())),
+        Err(ReadError::TooLarge(size)) => Err(BeginError::TooLarge(size)),
+        Err(ReadError::Failed) => Err(BeginError::Failed),
+        Err(ReadError::Memory) => Err(BeginError::Memory),
+    }
+}
+
+/// One step on a copy of a state: the answer and the next state.
+fn next_state(alloc: Global, live: &State, command: &Command) -> Result<(Response, State), Memory>
+    requires { is_offered command.now ≡ true }
+    ensures value { IfOk result (λ next. next ≡ respond command.now live.now) }
+    ensures fitting { IfOk result (λ next. fits command.now next.0 ≡ true) }
+    ensures rules { IfOk result (λ next. HasRules next.1) }
+{
+    let mut next = live.copy(alloc)?;
+    let response = step(alloc, &mut next, command)?;
+    Ok((response, next))
+}
+
+/// The text of the next state, where it isn't the live one.
+fn changed_text(alloc: Global, live: &State, next: &State) -> Result<Option<Vec<u8>>, Memory>
+    ensures same { IfOk result (λ text. text ≡ None → next.now ≡ live.now) }
+    ensures stored { IfOk result (λ text. IfSome text (λ bytes. stored_by (Some bytes.items) ≡ Holds next.now)) }
+    ensures other { next.now ≡ live.now → IfOk result (λ text. text ≡ None) }
+{
+    let before = encode(alloc, live)?;
+    let after = encode(alloc, next)?;
+    if before.as_slice() == after.as_slice() {
+        Ok(None)
+    } else {
+        Ok(Some(after))
+    }
+}
