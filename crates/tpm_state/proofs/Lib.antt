@@ -11,3 +11,4 @@ pub mod LayoutLaws
 pub mod Lengths
 pub mod Shapes
 pub mod Decoded
+pub mod Stores

@@ -1,8 +1,10 @@
 -- What a file stores, as a TPM that is kept in it tells.
-use Rattle.std.specs.Prelude.{◌≡◌, ℕ, nat_lt, true, if◌then◌else◌, List, length, Option, Some, None, Result, Ok, Err}
+use Rattle.std.specs.Prelude.{◌≡◌, ◌⊎◌, ℕ, nat_lt, true, if◌then◌else◌, List, length, Option, Some, None, Result, Ok, Err}
 use Rattle.std.specs.FinMap.{get}
 use Rattle.hash_bank.specs.declared.banks.Banks.{Banks}
 use Rattle.pl_base.specs.FileMap.{FileMap}
+use Rattle.pl_base.specs.declared.files.ReplaceError.{ReplaceError}
+use Rattle.pl_base.specs.declared.files.ReplaceError.TheVariants as replace
 use Rattle.tpm_model.specs.declared.parts.Parts.{Parts}
 use Rattle.tpm_model.specs.Fresh.{fresh_parts}
 use Rattle.tpm_device.specs.declared.device.BeginError.{BeginError}
@@ -44,3 +46,9 @@ StateGives kept (Err begin.Memory) = Unit {0}
 abbrev pub stored_in : Option FileMap → List ℕ → Option Stored
 stored_in None path = None
 stored_in (Some files) path = Some (stored_by (get files path))
+
+-- what a replacement leaves stored, given what was stored and what the new bytes store
+abbrev pub StoreLeaves : Stored → Stored → Result Unit ReplaceError → Option Stored → Type 0
+StoreLeaves kept next (Ok _) now = now ≡ Some next
+StoreLeaves kept next (Err replace.Failed) now = (now ≡ Some kept) ⊎ (now ≡ Some next)
+StoreLeaves kept next (Err replace.Memory) now = now ≡ Some kept

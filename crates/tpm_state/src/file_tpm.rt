@@ -1,17 +1,18 @@
 //! A TPM that is kept in a file.
-ghost use Rattle.std.specs.Prelude.{◌≡◌, ◌⊎◌, ◌≤◌, ◌↔◌, ℕ, Bool, true, false, Option, None, Some, is_some, is_ok, Ok, Err, IfOk, IfSome, length, MatchOption};
+ghost use Rattle.std.specs.Prelude.{◌≡◌, ◌≢◌, ◌⊎◌, ◌≤◌, ◌↔◌, ℕ, Bool, true, false, Option, None, Some, is_some, is_ok, Ok, Err, IfOk, IfSome, length, MatchOption};
 ghost use Rattle.std.specs.FinMap.{get};
 ghost use Rattle.pl_base.specs.Faults.{HasCause};
 ghost use Rattle.pl_base.specs.FileMap.{FileMap};
 ghost use Rattle.tpm_model.specs.declared.parts.Parts.{Parts};
 ghost use Rattle.tpm_model.specs.Fits.{fits};
+ghost use Rattle.tpm_model.specs.Fresh.{fresh_parts};
 ghost use Rattle.tpm_model.specs.Respond.{is_offered, respond};
 ghost use Rattle.tpm_model.specs.Rules.{HasRules};
 ghost use Rattle.tpm_device.specs.Stored.{Stored, Holds, BeginGives, ExecuteGives, ExecuteStores, stays_ready};
 ghost use Rattle.tpm_state.specs.declared.version.Version.TheVariants.{Two};
 ghost use Rattle.tpm_state.specs.Layout.{text_of};
 ghost use Rattle.tpm_state.specs.Decoding.{state_of};
-ghost use Rattle.tpm_state.specs.Storing.{most_bytes, stored_as, stored_by, stored_in, StateGives};
+ghost use Rattle.tpm_state.specs.Storing.{all_banks, stored_as, stored_by, stored_in, StateGives, StoreLeaves};
 
 use crate::{DecodeError, decode, encode};
 use hash_bank::Banks;
@@ -52,9 +53,17 @@ impl<F: Files> FileTpm<F> {
     }
 }
 
+/// A TPM that was never used, with all banks.
+fn fresh_state(alloc: Global) -> State
+    ensures { result ≡ fresh_parts all_banks }
+{
+    State::fresh(alloc, Banks::all())
+}
+
 /// The state that a file's bytes hold.
 fn state_in(alloc: Global, bytes: &[u8]) -> Result<State, BeginError>
-    ensures { StateGives (stored_as (state_of bytes.now)) result }
+    ensures told { StateGives (stored_as (state_of bytes.now)) result }
+    ensures fine { result ≢ Err BeginError.Failed }
 {
     match decode(alloc, bytes) {
         Ok(state) => Ok(state),
@@ -72,7 +81,7 @@ fn stored_state<F: Files>(files: &mut F, alloc: Global, path: &str) -> Result<St
 {
     match files.read(alloc, path, LIMIT) {
         Ok(bytes) => state_in(alloc, bytes.as_slice()),
-        Err(ReadError::Missing) => Ok(State::fresh(alloc, Banks::all())),
+        Err(ReadError::Missing) => Ok(fresh_state(alloc)),
         Err(ReadError::TooLarge(size)) => Err(BeginError::TooLarge(size)),
         Err(ReadError::Failed) => Err(BeginError::Failed),
         Err(ReadError::Memory) => Err(BeginError::Memory),
@@ -103,5 +112,69 @@ fn changed_text(alloc: Global, live: &State, next: &State) -> Result<Option<Vec<
         Ok(None)
     } else {
         Ok(Some(after))
+    }
+}
+
+/// Stores a text at the path.
+fn store<F: Files>(
+    files: &mut F,
+    alloc: Global,
+    path: &str,
+    text: &[u8],
+) -> Result<(), ReplaceError>
+    ensures cause { HasCause (F.faults files.old) (F.faults files.new) (result ≡ Err ReplaceError.Failed) }
+    ensures stored { (kept : Stored) → stored_in (F.held files.old) path.now ≡ Some kept → StoreLeaves kept (stored_by (Some text.now)) result (stored_in (F.held files.new) path.now) }
+{
+    files.replace(alloc, path, text)
+}
+
+impl<F: Files> Tpm for FileTpm<F> {
+    ghost live = { λ tpm. tpm.live };
+
+    ghost stored = { λ tpm. stored_in (F.held tpm.files) tpm.path };
+
+    ghost ready = { λ tpm. is_some tpm.live };
+
+    ghost faults = { λ tpm. F.faults tpm.files };
+
+    fn begin(&mut self, alloc: Global) -> Result<(), BeginError> {
+        self.live = None;
+        match stored_state(&mut self.files, alloc, self.path.text()) {
+            Ok(state) => {
+                self.live = Some(state);
+                Ok(())
+            }
+            Err(error) => Err(error),
+        }
+    }
+
+    fn is_ready(&self) -> bool {
+        self.live.is_some()
+    }
+
+    fn execute(&mut self, alloc: Global, command: &Command) -> Result<Response, ExecError> {
+        let Some(live) = &self.live else {
+            unreachable!()
+        };
+        let Ok((response, next)) = next_state(alloc, live, command) else {
+            return Err(ExecError::Memory);
+        };
+        let Ok(text) = changed_text(alloc, live, &next) else {
+            return Err(ExecError::Memory);
+        };
+        let Some(text) = text else {
+            return Ok(response);
+        };
+        match store(&mut self.files, alloc, self.path.text(), text.as_slice()) {
+            Ok(()) => {
+                self.live = Some(next);
+                Ok(response)
+            }
+            Err(ReplaceError::Failed) => {
+                self.live = None;
+                Err(ExecError::Failed)
+            }
+            Err(ReplaceError::Memory) => Err(ExecError::Memory),
+        }
     }
 }
