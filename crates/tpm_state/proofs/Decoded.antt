@@ -79,6 +79,7 @@ ruled_takes (byte, t) s e = test (leb 1 byte) (leb byte 15) (leb-true byte 15) e
     unbroken : (broken : Option StateRule) → unless_broken broken t ≡ Ok s → t ≡ s
     unbroken None e = cc
     unbroken (Some rule) e = absurd cc
+
     test : (a b : Bool) → (b ≡ true → byte ≤ 15) → cond (a && b) (unless_broken (broken_rule t) t) (Err (BadRule BanksRule)) ≡ Ok s → RuledTaken (byte, t) s
     test true true few e = record { few = few refl; same = unbroken (broken_rule t) e }
     test true false few e = absurd cc

@@ -72,6 +72,7 @@ bank_back n b e =
   where
     some_is : (a b : Bank) → Some a ≡ Some b → a ≡ b
     some_is a b e = cc
+
     not_none : (b : Bank) → None ≡ Some b → ⊥
     not_none b e = cc
 

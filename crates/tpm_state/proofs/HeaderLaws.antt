@@ -35,10 +35,10 @@ version_takes all bytes x fits e =
     let t = bytes_take all 8 bytes a.value fits a.first in
     elim (on_test (bytes_eq a.value.0 (magic_text Two)) a.second) [
       | inl p ↦ subst (λ (y : Version × List ℕ). Takes bytes (magic_text y.0) y.1) (ok_is (Two, a.value.1) x p.1)
-        (subst (λ (text : List ℕ). Takes bytes text a.value.1) ((bytes_eq-Decides a.value.0 (magic_text Two)).0 p.0) t.takes)
+          (subst (λ (text : List ℕ). Takes bytes text a.value.1) ((bytes_eq-Decides a.value.0 (magic_text Two)).0 p.0) t.takes)
       | inr q ↦ elim (on_test (bytes_eq a.value.0 (magic_text One)) q.1) [
         | inl p ↦ subst (λ (y : Version × List ℕ). Takes bytes (magic_text y.0) y.1) (ok_is (One, a.value.1) x p.1)
-          (subst (λ (text : List ℕ). Takes bytes text a.value.1) ((bytes_eq-Decides a.value.0 (magic_text One)).0 p.0) t.takes)
+            (subst (λ (text : List ℕ). Takes bytes text a.value.1) ((bytes_eq-Decides a.value.0 (magic_text One)).0 p.0) t.takes)
         | inr q ↦ absurd (refused _ x q.1)
       ]
     ]
@@ -129,7 +129,7 @@ bank_again all true bank before more rest count fits =
     let all_of : length (flat_map digest_text more) ≡ 24 * size_in bank = flat_length (size_in bank) more fits ∙ ap (λ (n : ℕ). n * size_in bank) count in
     let long : ltb (length (flat_map digest_text more ++ rest)) (24 * size_in bank) ≡ false = le-ltb _ _ (omega (arith, length-append (flat_map digest_text more) rest)) in
     let read : repeat_at (bytes_at all (size_in bank)) 24 before (flat_map digest_text more ++ rest) ≡ Ok (before ++ more, rest) =
-      subst (λ (n : ℕ). repeat_at (bytes_at all (size_in bank)) n before (flat_map digest_text more ++ rest) ≡ Ok (before ++ more, rest)) count (repeat_again (bytes_grammar all (size_in bank)) before more rest fits) in
+    subst (λ (n : ℕ). repeat_at (bytes_at all (size_in bank)) n before (flat_map digest_text more ++ rest) ≡ Ok (before ++ more, rest)) count (repeat_again (bytes_grammar all (size_in bank)) before more rest fits) in
     skip_test (ltb (length (flat_map digest_text more ++ rest)) (24 * size_in bank)) _ long read
 
 -- ---- sizes
@@ -149,6 +149,7 @@ all_sized size (suc n) (d ∷ more) e = (heads e, all_sized size n more (tails e
   where
     heads : {a b : ℕ} {fs gs : List ℕ} → a ∷ fs ≡ b ∷ gs → a ≡ b
     heads e = cc
+
     tails : {a b : ℕ} {fs gs : List ℕ} → a ∷ fs ≡ b ∷ gs → fs ≡ gs
     tails e = cc
 
@@ -185,6 +186,7 @@ split_map (x ∷ xs) (a ∷ fs) gs e =
   where
     heads : {a b : ℕ} {fs gs : List ℕ} → a ∷ fs ≡ b ∷ gs → a ≡ b
     heads e = cc
+
     tails : {a b : ℕ} {fs gs : List ℕ} → a ∷ fs ≡ b ∷ gs → fs ≡ gs
     tails e = cc
 
@@ -217,8 +219,8 @@ values_takes all banks bytes x fits e =
     let whole : x.0 ≡ four = d.whole ∙ ap (λ (l : List (List ℕ)). l ++ d.more) (c.whole ∙ ap (λ (l : List (List ℕ)). l ++ c.more) (b.whole ∙ ap (λ (l : List (List ℕ)). l ++ b.more) a.whole)) in
     let taken : Takes bytes (flat_map digest_text a.more ++ (flat_map digest_text b.more ++ (flat_map digest_text c.more ++ flat_map digest_text d.more))) x.1 = Takes-then a.takes (Takes-then b.takes (Takes-then c.takes d.takes)) in
     let sizes : HasValues banks four =
-      four_sized banks a.more b.more c.more d.more (sizes_from banks.sha1 20 a.more a.count a.fits) (sizes_from banks.sha256 32 b.more b.count b.fits)
-      (sizes_from banks.sha384 48 c.more c.count c.fits) (sizes_from banks.sha512 64 d.more d.count d.fits) in
+    four_sized banks a.more b.more c.more d.more (sizes_from banks.sha1 20 a.more a.count a.fits) (sizes_from banks.sha256 32 b.more b.count b.fits)
+    (sizes_from banks.sha384 48 c.more c.count c.fits) (sizes_from banks.sha512 64 d.more d.count d.fits) in
     record {
       takes = subst (λ (l : List (List ℕ)). Takes bytes (values_text l) x.1) (sym whole) (subst (λ (text : List ℕ). Takes bytes text x.1) (sym (flat_four a.more b.more c.more d.more)) taken);
       fits = subst (λ (l : List (List ℕ)). HasValues banks l) (sym whole) sizes;

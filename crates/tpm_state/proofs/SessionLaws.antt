@@ -34,10 +34,10 @@ hash_takes all Two bytes x fits e =
     let t = (number_grammar wide16 all).takes bytes a.value fits a.first in
     elim (on_test (eqb a.value.0 11) a.second) [
       | inl p ↦ subst (λ (y : Bank × List ℕ). Taken (hash_text Two) (HashFits Two) bytes y) (ok_is (Sha256, a.value.1) x p.1)
-        (record { takes = subst (λ (n : ℕ). Takes bytes (to_be_bytes w16 n) a.value.1) (eqb-true _ _ p.0) t.takes; fits = inl refl })
+          (record { takes = subst (λ (n : ℕ). Takes bytes (to_be_bytes w16 n) a.value.1) (eqb-true _ _ p.0) t.takes; fits = inl refl })
       | inr q ↦ elim (on_test (eqb a.value.0 12) q.1) [
         | inl p ↦ subst (λ (y : Bank × List ℕ). Taken (hash_text Two) (HashFits Two) bytes y) (ok_is (Sha384, a.value.1) x p.1)
-          (record { takes = subst (λ (n : ℕ). Takes bytes (to_be_bytes w16 n) a.value.1) (eqb-true _ _ p.0) t.takes; fits = inr refl })
+            (record { takes = subst (λ (n : ℕ). Takes bytes (to_be_bytes w16 n) a.value.1) (eqb-true _ _ p.0) t.takes; fits = inr refl })
         | inr q ↦ absurd (refused _ x q.1)
       ]
     ]
@@ -85,7 +85,7 @@ noted_takes all bytes x fits e =
     let first = byte_takes all bytes a.value fits a.first in
     elim (on_test (eqb a.value.0 0) a.second) [
       | inl p ↦ behind_flag a.value.0 0 bytes a.value.1 x (eqb-true _ _ p.0) first
-        (subst (λ (y : Option ℕ × List ℕ). Taken noted_text NotedFits (0 ∷ a.value.1) y) (ok_is (None, a.value.1) x p.1) (record { takes = Takes-byte 0 a.value.1 first.rest_fits; fits = tt }))
+          (subst (λ (y : Option ℕ × List ℕ). Taken noted_text NotedFits (0 ∷ a.value.1) y) (ok_is (None, a.value.1) x p.1) (record { takes = Takes-byte 0 a.value.1 first.rest_fits; fits = tt }))
       | inr q ↦ elim (on_test (eqb a.value.0 1) q.1) [
         | inl p ↦ behind_flag a.value.0 1 bytes a.value.1 x (eqb-true _ _ p.0) first (noted_number_takes all a.value.1 x first.rest_fits p.1)
         | inr q ↦ absurd (refused _ x q.1)

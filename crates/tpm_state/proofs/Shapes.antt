@@ -192,13 +192,13 @@ rules_laid s rules =
     let sessions_end : s.next_session ≤ 0x01000000 = leb-true _ _ numbers.0 in
     let objects_end : s.next_object ≤ 0x00800000 = leb-true _ _ numbers.1 in
     let session_handles = all_map (λ (session : Session). session.handle < 0x03000000 + s.next_session) (λ (session : Session). session.handle < 2 ^ 32) (λ session lt. omega arith) s.sessions
-      (handles_below (λ (session : Session). session.handle) 0x03000000 (0x03000000 + s.next_session) s.sessions rules.session_order) in
+    (handles_below (λ (session : Session). session.handle) 0x03000000 (0x03000000 + s.next_session) s.sessions rules.session_order) in
     let object_handles = all_map (λ (o : Object). o.handle < 0x81000000 + s.next_object) (λ (o : Object). o.handle < 2 ^ 32) (λ o lt. omega arith) s.objects
-      (handles_below (λ (o : Object). o.handle) 0x81000000 (0x81000000 + s.next_object) s.objects rules.object_order) in
+    (handles_below (λ (o : Object). o.handle) 0x81000000 (0x81000000 + s.next_object) s.objects rules.object_order) in
     let order = and_parts (are_handles 0x01000000 0x02000000 (map (λ (index : Index). index.public.handle) s.indices)) (list_all (is_counted s.write_counter) s.indices && are_apart s.indices) rules.index_order in
     let counted = and_parts (list_all (is_counted s.write_counter) s.indices) (are_apart s.indices) order.1 in
     let index_handles = all_map (λ (index : Index). index.public.handle < 0x02000000) (λ (index : Index). index.public.handle < 2 ^ 32) (λ index lt. omega arith) s.indices
-      (handles_below (λ (index : Index). index.public.handle) 0x01000000 0x02000000 s.indices order.0) in
+    (handles_below (λ (index : Index). index.public.handle) 0x01000000 0x02000000 s.indices order.0) in
     record {
       values = shape.values;
       update_counter = shape.updates;
@@ -218,6 +218,7 @@ rules_laid s rules =
     sessions_keep [] a b c d = tt
     sessions_keep (session ∷ list) a b c d =
         (session_fits s rules.shape.updates rules.shape.writes session (record { shape = a.0; handle = b.0; noted = c.0; reads = d.0 }), sessions_keep list a.1 b.1 c.1 d.1)
+
     indices_keep : (list : List Index) → AllByRecursion IsIndexShape list → AllByRecursion (λ (index : Index). index.public.handle < 2 ^ 32) list
         → AllByRecursion (λ (index : Index). is_counted s.write_counter index ≡ true) list → AllByRecursion (λ (index : Index). has_attributes index ≡ true) list → AllByRecursion IndexFits list
     indices_keep [] a b c d = tt
@@ -243,6 +244,7 @@ one_laid s fits all = record {
   where
     session_one : (session : Session) → SessionFits Two session → session.hash ≡ Sha256 → SessionFits One session
     session_one session fits is = record { hash = is; handle = fits.handle; digest = fits.digest; noted = fits.noted; entries = fits.entries; trail = fits.trail }
+
     object_one : (o : Object) → ObjectFits Two o → length o.policy ≡ 32 → ObjectFits One o
     object_one o fits is = record { handle = fits.handle; policy = is; secret = fits.secret }
 

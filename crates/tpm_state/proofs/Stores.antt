@@ -35,8 +35,10 @@ store_leaves before now path bytes r kept told e =
   where
     set : (files : FileMap) → now ≡ Some (insert files path bytes) → stored_in now path ≡ Some (stored_by (Some bytes))
     set files is = ap (λ held. stored_in held path) is ∙ ap (λ found. Some (stored_by found)) (get_set files path bytes)
+
     old : (files : FileMap) → stored_by (get files path) ≡ kept → now ≡ Some files → stored_in now path ≡ Some kept
     old files same is = ap (λ held. stored_in held path) is ∙ ap Some same
+
     leaves : (files : FileMap) (r : Result Unit ReplaceError) → stored_by (get files path) ≡ kept → ReplaceLeaves files (insert files path bytes) r now → StoreLeaves kept (stored_by (Some bytes)) r (stored_in now path)
     leaves files (Ok _) same is = set files is
     leaves files (Err replace.Failed) same (inl is) = inl (old files same is)

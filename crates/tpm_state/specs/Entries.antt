@@ -67,6 +67,6 @@ unfoldable pub entry_at : ℕ → Bank → List ℕ → Result (TrailEntry × Li
 entry_at all hash bytes = do
   tag ← byte_at all bytes
   if tag.0 == 1 then pcr_entry_at all hash tag.1
-    else if tag.0 == 2 then or_entry_at all hash tag.1
-    else if tag.0 == 3 then nv_entry_at all tag.1
-    else Err (fault all bytes)
+      else if tag.0 == 2 then or_entry_at all hash tag.1
+      else if tag.0 == 3 then nv_entry_at all tag.1
+      else Err (fault all bytes)

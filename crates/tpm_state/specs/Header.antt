@@ -46,8 +46,8 @@ unfoldable pub version_at : ℕ → List ℕ → Result (Version × List ℕ) De
 version_at all bytes = do
   magic ← bytes_at all 8 bytes
   if bytes_eq magic.0 (magic_text Two) then Ok (Two, magic.1)
-    else if bytes_eq magic.0 (magic_text One) then Ok (One, magic.1)
-    else Err (fault all bytes)
+      else if bytes_eq magic.0 (magic_text One) then Ok (One, magic.1)
+      else Err (fault all bytes)
 
 -- the banks whose bits are set
 abbrev pub banks_of : ℕ → Banks
@@ -57,7 +57,7 @@ banks_of byte = record { sha1 = byte % 2 == 1; sha256 = byte / 2 % 2 == 1; sha38
 unfoldable pub bank_at : ℕ → Bool → Bank → List (List ℕ) → List ℕ → Result (List (List ℕ) × List ℕ) DecodeError
 bank_at all present bank before bytes =
     if present then (if nat_lt (length bytes) (24 * size_in bank) then Err (fault all bytes)
-      else repeat_at (bytes_at all (size_in bank)) 24 before bytes)
+    else repeat_at (bytes_at all (size_in bank)) 24 before bytes)
     else Ok (before, bytes)
 
 -- the values of all present banks

@@ -54,8 +54,8 @@ hash_at all One bytes = Ok (Sha256, bytes)
 hash_at all Two bytes = do
   number ← number_at all w16 bytes
   if number.0 == 0x000B then Ok (Sha256, number.1)
-    else if number.0 == 0x000C then Ok (Sha384, number.1)
-    else Err (fault all bytes)
+      else if number.0 == 0x000C then Ok (Sha384, number.1)
+      else Err (fault all bytes)
 
 unfoldable pub noted_number_at : ℕ → List ℕ → Result (Option ℕ × List ℕ) DecodeError
 noted_number_at all bytes = do
@@ -66,8 +66,8 @@ unfoldable pub noted_at : ℕ → List ℕ → Result (Option ℕ × List ℕ) D
 noted_at all bytes = do
   flag ← byte_at all bytes
   if flag.0 == 0 then Ok (None, flag.1)
-    else if flag.0 == 1 then noted_number_at all flag.1
-    else Err (fault all bytes)
+      else if flag.0 == 1 then noted_number_at all flag.1
+      else Err (fault all bytes)
 
 unfoldable pub session_at : ℕ → Version → List ℕ → Result (Session × List ℕ) DecodeError
 session_at all version bytes = do

@@ -5,8 +5,8 @@ ghost use Rattle.tpm_state.specs.Entries.{mask_text, entry_text, mask_at, bank_n
 
 use crate::DecodeError;
 use crate::field::{
-    digest_of, fault_at, put_digests, put_u16, put_u32, read_bank_bytes, read_bytes, read_digests, read_u8,
-    read_u16, read_u32,
+    digest_of, fault_at, put_digests, put_u16, put_u32, read_bank_bytes, read_bytes, read_digests,
+    read_u8, read_u16, read_u32,
 };
 use hash_bank::{Bank, Digest};
 use pl_base::Memory;
@@ -44,11 +44,7 @@ fn read_bank_number(all: usize, bytes: &[u8]) -> Result<(Bank, &[u8]), DecodeErr
 
 /// What follows the tag of a PolicyPCR.
 #[tactic(auto, unfolding(crate::specs::Entries::pcr_entry_at))]
-fn read_pcr_entry(
-    all: usize,
-    hash: Bank,
-    bytes: &[u8],
-) -> Result<(TrailEntry, &[u8]), DecodeError>
+fn read_pcr_entry(all: usize, hash: Bank, bytes: &[u8]) -> Result<(TrailEntry, &[u8]), DecodeError>
     ensures { Gives (λ x. (x.0, x.1.now)) result (pcr_entry_at all hash bytes.now) }
 {
     let (bank, rest) = read_bank_number(all, bytes)?;

@@ -137,22 +137,40 @@ impl<F: Files> Tpm for FileTpm<F> {
 
     ghost faults = { λ tpm. F.faults tpm.files };
 
-    fn begin(&mut self, alloc: Global) -> Result<(), BeginError> {
-        self.live = None;
-        match stored_state(&mut self.files, alloc, self.path.text()) {
-            Ok(state) => {
-                self.live = Some(state);
-                Ok(())
-            }
-            Err(error) => Err(error),
-        }
+    fn begin(&mut self, alloc: Global) -> Result<(), BeginError>
+        ensures cause { HasCause (F.faults self.old.files) (F.faults self.new.files) (result ≡ Err BeginError.Failed) }
+        ensures readiness { is_some self.new.live ≡ is_ok result }
+        ensures told { (kept : Stored) → stored_in (F.held self.old.files) self.old.path ≡ Some kept → BeginGives kept result self.new.live }
+        ensures same { stored_in (F.held self.new.files) self.new.path ≡ stored_in (F.held self.old.files) self.old.path }
+        // Nothing is written, and the TPM stays in its file.
+        ensures quiet { F.held self.new.files ≡ F.held self.old.files }
+        ensures path { self.new.path ≡ self.old.path }
+    {
+        let (live, answer) = match stored_state(&mut self.files, alloc, self.path.text()) {
+            Ok(state) => (Some(state), Ok(())),
+            Err(error) => (None, Err(error)),
+        };
+        self.live = live;
+        answer
     }
 
     fn is_ready(&self) -> bool {
         self.live.is_some()
     }
 
-    fn execute(&mut self, alloc: Global, command: &Command) -> Result<Response, ExecError> {
+    fn execute(&mut self, alloc: Global, command: &Command) -> Result<Response, ExecError>
+        requires readiness { is_some self.old.live ≡ true }
+        requires offered { is_offered command.now ≡ true }
+        ensures cause { HasCause (F.faults self.old.files) (F.faults self.new.files) (result ≡ Err ExecError.Failed) }
+        ensures fitting { IfOk result (λ answer. fits command.now answer ≡ true) }
+        ensures readiness { is_some self.new.live ≡ stays_ready result }
+        ensures told { (s : Parts) → self.old.live ≡ Some s → ExecuteGives command.now s result (is_some self.new.live) self.new.live }
+        ensures rules { (s : Parts) → self.old.live ≡ Some s → HasRules s → IfSome self.new.live HasRules }
+        ensures stored { (s : Parts) → self.old.live ≡ Some s → stored_in (F.held self.old.files) self.old.path ≡ Some (Holds s) → ExecuteStores command.now s result (stored_in (F.held self.new.files) self.new.path) }
+        // A command that leaves an equal state writes nothing, and the TPM stays in its file.
+        ensures quiet { (s : Parts) → self.old.live ≡ Some s → (respond command.now s).1 ≡ s → F.held self.new.files ≡ F.held self.old.files }
+        ensures path { self.new.path ≡ self.old.path }
+    {
         let Some(live) = &self.live else {
             unreachable!()
         };

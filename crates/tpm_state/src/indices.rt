@@ -6,7 +6,9 @@ ghost use Rattle.tpm_state.specs.Field.{Gives, repeat_at, counted_at, counted_te
 ghost use Rattle.tpm_state.specs.Indices.{written_text, index_text, written_at, index_at};
 
 use crate::DecodeError;
-use crate::field::{digest_of, fault_at, put_u16, put_u32, read_bytes, read_u8, read_u16, read_u32};
+use crate::field::{
+    digest_of, fault_at, put_u16, put_u32, read_bytes, read_u8, read_u16, read_u32,
+};
 use nv_index::{CONTENT_SIZE, Index, NvPublic, Written};
 use pl_base::{Memory, Small};
 use std::alloc::Global;
@@ -26,7 +28,11 @@ fn has_written(attributes: u32) -> bool
 
 /// The last write, where there is one.
 #[tactic(auto, unfolding(crate::specs::Indices::written_at))]
-fn read_written(all: usize, is_written: bool, bytes: &[u8]) -> Result<(Option<Written>, &[u8]), DecodeError>
+fn read_written(
+    all: usize,
+    is_written: bool,
+    bytes: &[u8],
+) -> Result<(Option<Written>, &[u8]), DecodeError>
     ensures { Gives (λ x. (x.0, x.1.now)) result (written_at all is_written bytes.now) }
 {
     if !is_written {

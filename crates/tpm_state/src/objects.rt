@@ -5,7 +5,9 @@ ghost use Rattle.tpm_state.specs.Field.{Gives, repeat_at, counted_at, counted_te
 ghost use Rattle.tpm_state.specs.Objects.{size_text, secret_text, object_text, size_at, secret_at, object_at};
 
 use crate::DecodeError;
-use crate::field::{digest_of, fault_at, put_u16, put_u32, read_bytes, read_u8, read_u16, read_u32};
+use crate::field::{
+    digest_of, fault_at, put_u16, put_u32, read_bytes, read_u8, read_u16, read_u32,
+};
 use crate::version::Version;
 use pl_base::{Memory, Small};
 use std::alloc::Global;
@@ -51,11 +53,7 @@ fn read_secret(all: usize, bytes: &[u8]) -> Result<(&[u8], &[u8]), DecodeError>
 }
 
 #[tactic(auto, unfolding(crate::specs::Objects::object_at))]
-fn read_object(
-    all: usize,
-    version: Version,
-    bytes: &[u8],
-) -> Result<(Object, &[u8]), DecodeError>
+fn read_object(all: usize, version: Version, bytes: &[u8]) -> Result<(Object, &[u8]), DecodeError>
     ensures { Gives (λ x. (x.0, x.1.now)) result (object_at all version bytes.now) }
 {
     let (handle, rest) = read_u32(all, bytes)?;

@@ -6,7 +6,9 @@ ghost use Rattle.tpm_state.specs.Sessions.{hash_text, noted_text, session_text, 
 
 use crate::DecodeError;
 use crate::entries::{put_trail, read_trail};
-use crate::field::{digest_of, fault_at, put_u16, put_u32, read_bank_bytes, read_u8, read_u16, read_u32};
+use crate::field::{
+    digest_of, fault_at, put_u16, put_u32, read_bank_bytes, read_u8, read_u16, read_u32,
+};
 use crate::version::Version;
 use hash_bank::Bank;
 use pl_base::Memory;

@@ -22,5 +22,5 @@ returns-clause-text c =
     (c.in_ok-put_digests.ensures ∙ ap (λ values. c.put_banks.new.out.items ++ values_text values) c.pcrs-values.ensures.value)
     (c.in_ok-put_counters.ensures ∙ ap (λ counters. c.put_digests.new.out.items ++ counters_text counters) c.counters.ensures)
     (c.in_ok-put_lists.ensures ∙ ap (λ l. c.put_counters.new.out.items ++ lists_text Two l c.indices.result.now c.objects.result.now) c.sessions.ensures
-      ∙ ap (λ l. c.put_counters.new.out.items ++ lists_text Two s.sessions l c.objects.result.now) c.indices.ensures
-      ∙ ap (λ l. c.put_counters.new.out.items ++ lists_text Two s.sessions s.indices l) c.objects.ensures)
+    ∙ ap (λ l. c.put_counters.new.out.items ++ lists_text Two s.sessions l c.objects.result.now) c.indices.ensures
+    ∙ ap (λ l. c.put_counters.new.out.items ++ lists_text Two s.sessions s.indices l) c.objects.ensures)
