@@ -185,6 +185,13 @@ impl IndexTable {
         self.entries.as_slice()
     }
 
+    /// The index of a handle, or None where no index has it.
+    pub fn get(&self, handle: u32) -> Option<&Index>
+        ensures { option_copied result ≡ index_at handle self.now }
+    {
+        find_index(self.entries.as_slice(), handle)
+    }
+
     /// Defines an index (TPM 2.0 Library Part 3, TPM2_NV_DefineSpace).
     ///
     /// # Errors
