@@ -1,2 +1,4 @@
 pub mod Attributes
+pub mod Handles
 pub mod IndexName
+pub mod Table

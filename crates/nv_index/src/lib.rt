@@ -6,6 +6,7 @@ mod attributes;
 mod index;
 mod name;
 mod refusal;
+mod table;
 #[cfg(test)]
 mod tests;
 
@@ -13,3 +14,4 @@ pub use crate::attributes::{CONTENT_SIZE, DEFINED_ATTRIBUTES, WRITTEN_ATTRIBUTES
 pub use crate::index::{Index, NvPublic, Written};
 pub use crate::name::index_name;
 pub use crate::refusal::{DefineError, NvRefusal};
+pub use crate::table::{IndexTable, is_index_handle};

@@ -2,7 +2,6 @@
 ghost use Rattle.std.specs.Prelude.{[], is_none, ◌≡◌, ℕ, true, None, Option, Some, IfOk, IfErr, IfSome, Result, Ok, Err};
 ghost use Rattle.tpm_model.specs.declared.parts.Parts.{Parts};
 ghost use Rattle.tpm_device.specs.Stored.{Stored, Holds, TooLarge, Malformed, BadRule};
-ghost use Rattle.tpm_model.specs.Respond.{is_offered};
 ghost use Rattle.tpm_model.specs.Rules.{HasRules};
 ghost use Rattle.pcrlock_line.specs.Asked.{IsAnswered, IsStopped};
 ghost use Rattle.pcrlock_line.specs.Begun.{rule_name as name_of_rule, state_refusal, IsBegun};
@@ -87,7 +86,6 @@ pub fn ready<T: Tpm>(alloc: Global, tpm: &mut T, path: &Name) -> Result<Option<A
 /// Executes a command on the ready device, which tells its live state and stores it.
 pub fn ask<T: Tpm>(alloc: Global, tpm: &mut T, command: &Command) -> Result<Response, Stop>
     requires readiness { T.ready tpm.old ≡ true }
-    requires offered { is_offered command.now ≡ true }
     ensures causes { HasCauses (0, 0, T.faults tpm.old, 0) (0, 0, T.faults tpm.new, 0) result }
     ensures told { (s : Parts) → T.live tpm.old ≡ Some s → T.stored tpm.old ≡ Some (Holds s)
         → IfOk result (λ response. IsAnswered command.now s response (T.ready tpm.new) (T.live tpm.new) (T.stored tpm.new)) }

@@ -7,7 +7,7 @@ ghost use Rattle.tpm_device.specs.Stored.{Holds};
 ghost use Rattle.tpm_model.specs.declared.parts.Parts.{Parts};
 ghost use Rattle.tpm_model.specs.declared.sessions.Session.{Session};
 ghost use Rattle.tpm_model.specs.Pcrs.{pcr_of};
-ghost use Rattle.tpm_model.specs.Respond.{respond, is_offered};
+ghost use Rattle.tpm_model.specs.Respond.{respond};
 ghost use Rattle.tpm_model.specs.Rules.{HasRules};
 ghost use Rattle.tpm_model.specs.Sessions.{object_at};
 ghost use Rattle.policy_session.specs.Answers.{is_answer as answers, Told};
@@ -26,8 +26,7 @@ use tpm_model::{Command, Response};
 
 /// Asks the device, which stays ready until a failure.
 fn ask<T: Tpm>(alloc: Global, tpm: &mut T, command: &Command) -> Result<Response, UnsealError>
-    requires readiness { T.ready tpm.old ≡ true }
-    requires offered { is_offered command.now ≡ true }
+    requires { T.ready tpm.old ≡ true }
     ensures cause { HasCause (T.faults tpm.old) (T.faults tpm.new) (result ≡ Err UnsealError.Failed) }
     ensures never { IfErr result IsNeverForeseen }
     ensures readiness { answers result ≡ true → T.ready tpm.new ≡ true }

@@ -3,7 +3,6 @@ ghost use Rattle.std.specs.Prelude.{◌≡◌, ℕ, Bool, true, false, Option, S
 ghost use Rattle.pl_base.specs.Faults.{HasCause};
 ghost use Rattle.tpm_model.specs.declared.parts.Parts.{Parts};
 ghost use Rattle.tpm_model.specs.Fits.{fits};
-ghost use Rattle.tpm_model.specs.Respond.{is_offered};
 ghost use Rattle.tpm_model.specs.Rules.{HasRules};
 ghost use Rattle.tpm_device.specs.Stored.{Stored, Holds, BeginGives, ExecuteGives, ExecuteStores, stays_ready};
 
@@ -63,8 +62,7 @@ pub trait Tpm {
     /// Executes a command on the live state. An answer fits the command. After a failure the device
     /// isn't ready, and what is stored is the state before or the next one; else it stays ready.
     fn execute(&mut self, alloc: Global, command: &Command) -> Result<Response, ExecError>
-        requires readiness { ready self.old ≡ true }
-        requires offered { is_offered command.now ≡ true }
+        requires { ready self.old ≡ true }
         ensures cause { HasCause (faults self.old) (faults self.new) (result ≡ Err ExecError.Failed) }
         ensures fitting { IfOk result (λ answer. fits command.now answer ≡ true) }
         ensures readiness { ready self.new ≡ stays_ready result }

@@ -4,7 +4,6 @@ ghost use Rattle.pl_base.specs.Calls.{FollowsPlan};
 ghost use Rattle.pl_base.specs.Faults.{HasCause};
 ghost use Rattle.tpm_model.specs.declared.parts.Parts.{Parts};
 ghost use Rattle.tpm_model.specs.Fits.{fits};
-ghost use Rattle.tpm_model.specs.Respond.{is_offered};
 ghost use Rattle.tpm_model.specs.Rules.{HasRules};
 ghost use Rattle.tpm_device.specs.Stored.{Stored, Holds, BeginGives, ExecuteGives, ExecuteStores, stays_ready};
 
@@ -46,8 +45,7 @@ impl SoftTpm {
 
     /// One step of the state.
     fn step(&mut self, alloc: Global, command: &Command) -> Result<Response, ExecError>
-        requires offered { is_offered command.now ≡ true }
-        requires readiness { self.old.ready ≡ true }
+        requires { self.old.ready ≡ true }
         ensures told { ExecuteGives command.now self.old.state result self.old.ready (Some self.new.state) }
         ensures memory { result ≢ Err ExecError.Failed }
         ensures fitting { IfOk result (λ answer. fits command.now answer ≡ true) }
@@ -95,8 +93,7 @@ impl Tpm for SoftTpm {
     }
 
     fn execute(&mut self, alloc: Global, command: &Command) -> Result<Response, ExecError>
-        requires readiness { self.old.ready ≡ true }
-        requires offered { is_offered command.now ≡ true }
+        requires { self.old.ready ≡ true }
         ensures cause { HasCause self.old.calls.faults self.new.calls.faults (result ≡ Err ExecError.Failed) }
         ensures fitting { IfOk result (λ answer. fits command.now answer ≡ true) }
         ensures readiness { self.new.ready ≡ stays_ready result }

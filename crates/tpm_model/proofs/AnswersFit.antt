@@ -1,6 +1,6 @@
 -- Every answer of the TPM fits its command.
 use Rattle.std.proofs.Common.{◌≡◌, ℕ, ◌^◌, ◌<◌, Bool, true, false, not, List, length, ◌||◌, refl, ap, ◌∙◌, arith}
-use Rattle.std.specs.Prelude.{nat_le, nat_lt, ◌==◌, Option, None, Some, Result, Ok, Err, IfOk}
+use Rattle.std.specs.Prelude.{nat_le, nat_lt, ◌==◌, Option, None, Some, Result, Ok, Err, IfOk, is_some, slice_get}
 use Rattle.std.specs.Str.{bytes_eq}
 use Rattle.std.proofs.lemmas.Bool.{and_from, cond_both, eq-eqb, leb-false, le-leb}
 use Rattle.hash_bank.specs.declared.bank.Bank.{Bank}
@@ -8,6 +8,15 @@ use Rattle.hash_bank.specs.declared.bank.Bank.TheVariants.{Sha1, Sha256, Sha384,
 use Rattle.hash_bank.specs.declared.banks.Banks.{Banks}
 use Rattle.hash_bank.specs.declared.digests.Digests.{Digests}
 use Rattle.hash_bank.specs.Banks.{has_bank}
+use Rattle.nv_index.specs.Attributes.{content_size, defined_attributes}
+use Rattle.nv_index.specs.Handles.{is_index_handle}
+use Rattle.nv_index.specs.Table.{content_of, index_at, public_of, read_of, undefine_refusal_of, write_refusal_of}
+use Rattle.nv_index.specs.declared.index.Index.{Index}
+use Rattle.nv_index.specs.declared.index.NvPublic.{NvPublic}
+use Rattle.nv_index.specs.declared.index.Written.{Written}
+use Rattle.nv_index.specs.declared.refusal.NvRefusal.{NvRefusal}
+use Rattle.policy_digest.specs.Pin.{pin_policy_of}
+use Rattle.tpm_model.specs.IndexCommands.{content_answer, nv_define, nv_define_unless, nv_read, nv_read_public, nv_undefine, nv_undefine_unless, nv_write, nv_write_unless, public_answer}
 use Rattle.tpm_model.specs.declared.command.Command.{Command}
 use Rattle.tpm_model.specs.declared.command.Command.TheVariants as command
 use Rattle.tpm_model.specs.declared.response.Response.{Response}
@@ -15,12 +24,12 @@ use Rattle.tpm_model.specs.declared.parts.Parts.{Parts}
 use Rattle.tpm_model.specs.declared.sessions.Session.{Session}
 use Rattle.tpm_model.specs.declared.object.Object.{Object}
 use Rattle.tpm_model.specs.Fits.{fits, is_same_bank}
-use Rattle.tpm_model.specs.ObjectCommands.{is_policy_size, seal, unseal, unseal_noted, unseal_of, unseal_on}
+use Rattle.tpm_model.specs.ObjectCommands.{is_policy_size, seal, unseal, unseal_noted, unseal_of, unseal_on, evict, evict_on}
 use Rattle.tpm_model.specs.PcrCommands.{is_start_locality, pcr_extend, pcr_read, restart, value_or_absent}
 use Rattle.tpm_model.specs.Pcrs.{bank_count, pcr_of}
-use Rattle.tpm_model.specs.Respond.{is_offered, respond}
-use Rattle.tpm_model.specs.SessionCommands.{digest_on, flush_on, flush_session, noted_before, policy_get_digest, policy_pcr, policy_pcr_noted, policy_pcr_on, session_handle, start_session}
-use Rattle.tpm_model.specs.Sessions.{is_session_hash, object_at, session_at}
+use Rattle.tpm_model.specs.Respond.{respond}
+use Rattle.tpm_model.specs.SessionCommands.{digest_on, flush_on, flush_session, noted_before, policy_get_digest, policy_pcr, policy_pcr_noted, policy_pcr_on, session_handle, start_session, content_in, is_wrong_list, policy_authorize_nv, policy_authorize_nv_at, policy_authorize_nv_by, policy_authorize_nv_on, policy_or, policy_or_on}
+use Rattle.tpm_model.specs.Sessions.{is_session_hash, object_at, session_at, object_place}
 
 -- the answer fits the command
 abbrev pub Fits : Command → Response × Parts → Type 0
@@ -34,6 +43,10 @@ same_bank Sha512 = refl
 
 same_handle : (handle : ℕ) → (handle == handle) ≡ true
 same_handle handle = eq-eqb handle handle refl
+
+from_not : (b : Bool) → not b ≡ false → b ≡ true
+from_not true e = refl
+from_not false e = cc
 
 fits-restart : (locality : ℕ) (banks : Banks) (s : Parts) → Fits (command.Restart locality banks) (restart locality banks s)
 fits-restart locality banks s =
@@ -120,28 +133,112 @@ fits-unseal number handle s = on (session_at number s.sessions)
     on None = or_left (number == number) (number == handle) (same_handle number)
     on (Some session) = at (object_at handle s.objects) session
 
--- the answer to each command that can be executed fits it
-pub fits_answer : (c : Command) (s : Parts) → is_offered c ≡ true → Fits c (respond c s)
-fits_answer (command.Restart locality banks) s e = fits-restart locality banks s
-fits_answer (command.PcrExtend pcr digests) s e = fits-pcr_extend pcr digests s
-fits_answer (command.PcrRead bank pcr) s e = fits-pcr_read bank pcr s
-fits_answer (command.StartSession hash) s e = fits-start_session hash s
-fits_answer (command.PolicyPcr session bank pcrs) s e = fits-policy_pcr session bank pcrs s
-fits_answer (command.PolicyOr session list) s e = cc
-fits_answer (command.PolicyAuthorizeNv session index) s e = cc
-fits_answer (command.PolicyGetDigest session) s e = fits-policy_get_digest session s
-fits_answer (command.FlushSession session) s e = fits-flush_session session s
-fits_answer (command.NvDefine public) s e = cc
-fits_answer (command.NvUndefine index) s e = cc
-fits_answer (command.NvWrite index pin value) s e = cc
-fits_answer (command.NvRead index) s e = cc
-fits_answer (command.NvReadPublic index) s e = cc
-fits_answer (command.Seal policy secret) s e = fits-seal policy secret s
-fits_answer (command.Evict handle) s e = cc
-fits_answer (command.Unseal session handle) s e = fits-unseal session handle s
+fits-policy_or : (handle : ℕ) (list : List (List ℕ)) (s : Parts) → Fits (command.PolicyOr handle list) (policy_or handle list s)
+fits-policy_or handle list s = on (session_at handle s.sessions)
+  where
+    on : (o : Option Session) → Fits (command.PolicyOr handle list) (policy_or_on o handle list s)
+    on None = same_handle handle
+    on (Some session) =
+        cond_both (is_wrong_list session.hash session.digest list) _ _ (Fits (command.PolicyOr handle list)) (λ _. refl) (λ _.
+        cond_both (nat_le 128 (length session.trail)) _ _ (Fits (command.PolicyOr handle list)) (λ _. refl) (λ _. refl))
+
+fits-policy_authorize_nv : (handle index : ℕ) (s : Parts) → Fits (command.PolicyAuthorizeNv handle index) (policy_authorize_nv handle index s)
+fits-policy_authorize_nv handle index s = on (session_at handle s.sessions)
+  where
+    by : (public : NvPublic) (o : Option Written) (session : Session) → Fits (command.PolicyAuthorizeNv handle index) (policy_authorize_nv_by public o handle session s)
+    by public None session = refl
+    by public (Some written) session =
+        cond_both (not (bytes_eq written.value (content_in session.hash session.digest))) _ _ (Fits (command.PolicyAuthorizeNv handle index)) (λ _. refl) (λ _.
+        cond_both (nat_le 128 (length session.trail)) _ _ (Fits (command.PolicyAuthorizeNv handle index)) (λ _. refl) (λ _. refl))
+
+    at : (o : Option Index) (session : Session) → Fits (command.PolicyAuthorizeNv handle index) (policy_authorize_nv_at o handle session s)
+    at None session = refl
+    at (Some x) session = by x.public x.written session
+
+    on : (o : Option Session) → Fits (command.PolicyAuthorizeNv handle index) (policy_authorize_nv_on o handle index s)
+    on None = same_handle handle
+    on (Some session) = at (index_at index s.indices) session
+
+fits-nv_define : (public : NvPublic) (s : Parts) → Fits (command.NvDefine public) (nv_define public s)
+fits-nv_define public s =
+    cond_both (not (is_index_handle public.handle)) _ _ Given (λ _. same_handle public.handle) (λ handle.
+    cond_both (not (public.attributes == defined_attributes)) _ _ Given (λ _. refl) (λ attributes.
+    cond_both (not (public.size == content_size)) _ _ Given (λ _. refl) (λ size.
+    cond_both (not (length public.policy == 32)) _ _ Given
+    (λ policy. and_from _ (not (length public.policy == 32)) (and_from _ (public.size == content_size) (and_from (is_index_handle public.handle) (public.attributes == defined_attributes) (from_not _ handle) (from_not _ attributes)) (from_not _ size)) policy) (λ _.
+    cond_both (is_some (index_at public.handle s.indices)) _ _ Given (λ _. refl) (λ _.
+    cond_both (nat_le 16 (length s.indices)) _ _ Given (λ _. refl) (λ _. refl))))))
+  where
+    Given : Option NvRefusal → Type 0
+    Given o = Fits (command.NvDefine public) (nv_define_unless o public s)
+
+fits-nv_undefine : (handle : ℕ) (s : Parts) → Fits (command.NvUndefine handle) (nv_undefine handle s)
+fits-nv_undefine handle s = on (index_at handle s.indices)
+  where
+    on : (o : Option Index) → Fits (command.NvUndefine handle) (nv_undefine_unless (undefine_refusal_of o) handle s)
+    on None = refl
+    on (Some x) = refl
+
+fits-nv_write : (handle : ℕ) (pin value : List ℕ) (s : Parts) → Fits (command.NvWrite handle pin value) (nv_write handle pin value s)
+fits-nv_write handle pin value s = on (index_at handle s.indices)
+  where
+    Given : Option NvRefusal → Type 0
+    Given o = Fits (command.NvWrite handle pin value) (nv_write_unless o handle value s)
+
+    on : (o : Option Index) → Fits (command.NvWrite handle pin value) (nv_write_unless (write_refusal_of o (pin_policy_of pin) value) handle value s)
+    on None = refl
+    on (Some x) =
+        cond_both (not (bytes_eq (pin_policy_of pin) x.public.policy)) _ _ Given (λ _. refl) (λ _.
+        cond_both (not (length value == 34)) _ _ Given (λ _. refl) (λ _.
+        cond_both (s.write_counter == 4294967295) _ _ (Fits (command.NvWrite handle pin value)) (λ _. refl) (λ _. refl)))
+
+fits-nv_read : (handle : ℕ) (s : Parts) → Fits (command.NvRead handle) (nv_read handle s)
+fits-nv_read handle s = on (index_at handle s.indices)
+  where
+    of : (o : Option Written) → Fits (command.NvRead handle) (content_answer (content_of o) handle s)
+    of None = refl
+    of (Some written) = refl
+
+    on : (o : Option Index) → Fits (command.NvRead handle) (content_answer (read_of o) handle s)
+    on None = refl
+    on (Some x) = of x.written
+
+fits-nv_read_public : (handle : ℕ) (s : Parts) → Fits (command.NvReadPublic handle) (nv_read_public handle s)
+fits-nv_read_public handle s = on (index_at handle s.indices)
+  where
+    on : (o : Option Index) → Fits (command.NvReadPublic handle) (public_answer (public_of o) handle s)
+    on None = refl
+    on (Some x) = refl
+
+fits-evict : (handle : ℕ) (s : Parts) → Fits (command.Evict handle) (evict handle s)
+fits-evict handle s = on (slice_get s.objects (object_place handle s.objects))
+  where
+    on : (o : Option Object) → Fits (command.Evict handle) (evict_on o handle s)
+    on None = same_handle handle
+    on (Some x) = refl
+
+-- the answer to each command fits it
+pub fits_answer : (c : Command) (s : Parts) → Fits c (respond c s)
+fits_answer (command.Restart locality banks) s = fits-restart locality banks s
+fits_answer (command.PcrExtend pcr digests) s = fits-pcr_extend pcr digests s
+fits_answer (command.PcrRead bank pcr) s = fits-pcr_read bank pcr s
+fits_answer (command.StartSession hash) s = fits-start_session hash s
+fits_answer (command.PolicyPcr session bank pcrs) s = fits-policy_pcr session bank pcrs s
+fits_answer (command.PolicyOr session list) s = fits-policy_or session list s
+fits_answer (command.PolicyAuthorizeNv session index) s = fits-policy_authorize_nv session index s
+fits_answer (command.PolicyGetDigest session) s = fits-policy_get_digest session s
+fits_answer (command.FlushSession session) s = fits-flush_session session s
+fits_answer (command.NvDefine public) s = fits-nv_define public s
+fits_answer (command.NvUndefine index) s = fits-nv_undefine index s
+fits_answer (command.NvWrite index pin value) s = fits-nv_write index pin value s
+fits_answer (command.NvRead index) s = fits-nv_read index s
+fits_answer (command.NvReadPublic index) s = fits-nv_read_public index s
+fits_answer (command.Seal policy secret) s = fits-seal policy secret s
+fits_answer (command.Evict handle) s = fits-evict handle s
+fits_answer (command.Unseal session handle) s = fits-unseal session handle s
 
 -- an answer that is that of the state fits
-pub answers_fit : {E : Type 0} (result : Result Response E) (new : Parts) (c : Command) (s : Parts) → is_offered c ≡ true
+pub answers_fit : {E : Type 0} (result : Result Response E) (new : Parts) (c : Command) (s : Parts)
     → IfOk result (λ answer. (answer, new) ≡ respond c s) → IfOk result (λ answer. fits c answer ≡ true)
-answers_fit (Ok answer) new c s e told = ap (λ (x : Response × Parts). fits c x.0) told ∙ fits_answer c s e
-answers_fit (Err error) new c s e told = tt
+answers_fit (Ok answer) new c s told = ap (λ (x : Response × Parts). fits c x.0) told ∙ fits_answer c s
+answers_fit (Err error) new c s told = tt

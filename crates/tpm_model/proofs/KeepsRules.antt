@@ -23,20 +23,20 @@ use Rattle.tpm_model.specs.declared.object.Object.{Object}
 use Rattle.tpm_model.specs.declared.trail.TrailEntry.{TrailEntry}
 use Rattle.tpm_model.specs.declared.trail.TrailEntry.TheVariants as entry
 use Rattle.policy_digest.specs.Policies.{IsPolicyHash, policy_pcr_of}
-use Rattle.tpm_model.specs.Handles.{are_handles}
-use Rattle.tpm_model.specs.ObjectCommands.{seal, object_handle, is_policy_size}
+use Rattle.nv_index.specs.Handles.{are_handles}
+use Rattle.tpm_model.specs.ObjectCommands.{evict, evict_on, seal, object_handle, is_policy_size}
 use Rattle.tpm_model.specs.ObjectRules.{is_secret}
 use Rattle.tpm_model.specs.PcrCommands.{is_start_locality, pcr_extend, restart}
 use Rattle.tpm_model.specs.Pcrs.{pcr_of, after_extend, extended_in, put_extended, place_of, bank_count, present_digest_in, HasValues}
 use Rattle.tpm_model.specs.Rules.{HasRules}
 use Rattle.tpm_model.specs.SessionCommands.{start_session, session_handle, policy_pcr, policy_pcr_on, policy_pcr_noted, policy_pcr_now, noted_before, with_pcrs, flush_session, flush_on}
 use Rattle.tpm_model.specs.SessionRules.{has_members, has_reads, is_folded, is_noted, is_noted_by, is_now, is_up_to_date, saw_present}
-use Rattle.tpm_model.specs.Sessions.{is_session_hash, fresh_session, session_place, session_at}
+use Rattle.tpm_model.specs.Sessions.{object_place, is_session_hash, fresh_session, session_place, session_at}
 use Rattle.tpm_model.specs.Shape.{IsEntryShape, IsObjectShape, IsSessionShape}
 use Rattle.tpm_model.specs.Trails.{digest_after, has_pcr_entry, trail_digest}
 use Rattle.tpm_model.specs.Fresh.{fresh_parts}
 use Rattle.tpm_model.proofs.Handles.{handles_push, handles_remove}
-use Rattle.tpm_model.proofs.Lists.{map-remove, all_push, all_set, all_remove, all_at, passes_push, passes_set, passes_remove, passes_at, passes_weaker}
+use Rattle.nv_index.proofs.Lists.{map-remove, all_push, all_set, all_remove, all_at, passes_push, passes_set, passes_remove, passes_at, passes_weaker}
 use Rattle.tpm_model.proofs.PcrPlaces.{value_at, keeps_values}
 use Rattle.tpm_model.proofs.Starts.{start_sizes}
 use Rattle.tpm_model.proofs.TrailSteps.{bytes_same, digest_step, looked_last, members_step, reads_step, same_bytes, saw_none}
@@ -45,10 +45,10 @@ use Rattle.tpm_model.proofs.TrailSteps.{bytes_same, digest_step, looked_last, me
 abbrev pub Keeps : Response × Parts → Type 0
 Keeps r = HasRules r.1
 
-one_more : {A : Type 0} (xs : List A) (y : A) → length (xs ++ y ∷ []) ≡ length xs + 1
+pub one_more : {A : Type 0} (xs : List A) (y : A) → length (xs ++ y ∷ []) ≡ length xs + 1
 one_more xs y = length-append xs (y ∷ [])
 
-from_not : (b : Bool) → not b ≡ false → b ≡ true
+pub from_not : (b : Bool) → not b ≡ false → b ≡ true
 from_not true e = refl
 from_not false e = cc
 
@@ -131,7 +131,7 @@ handle_of : Session → ℕ
 handle_of x = x.handle
 
 -- other sessions that keep the rules, and another next number
-with_sessions : (s : Parts) (next : ℕ) (xs : List Session) → HasRules s → KeepsSessions s xs → length xs ≤ 64 → next ≤ 0x01000000
+pub with_sessions : (s : Parts) (next : ℕ) (xs : List Session) → HasRules s → KeepsSessions s xs → length xs ≤ 64 → next ≤ 0x01000000
     → are_handles 0x03000000 (0x03000000 + next) (map (λ (x : Session). x.handle) xs) ≡ true
     → HasRules (record s { next_session = next; sessions = xs })
 with_sessions s next xs h all few bound order = record {
@@ -341,6 +341,42 @@ keeps-seal policy secret s small h =
         or_cases true b p q e = inl (eqb-true n 32 p)
         or_cases false true p q e = inr (eqb-true n 48 q)
         or_cases false false p q e = cc
+
+-- an object that is taken away
+object_gone : (s : Parts) (place : ℕ) → HasRules s → place < length s.objects → HasRules (record s { objects = remove s.objects place })
+object_gone s place h within = record {
+  shape = record {
+    values = h.shape.values;
+    updates = h.shape.updates;
+    writes = h.shape.writes;
+    session_count = h.shape.session_count;
+    sessions = h.shape.sessions;
+    index_count = h.shape.index_count;
+    indices = h.shape.indices;
+    object_count = omega (arith, length-remove s.objects place within, h.shape.object_count);
+    objects = all_remove IsObjectShape s.objects place h.shape.objects;
+  };
+  banks = h.banks;
+  counters = h.counters;
+  session_order = h.session_order;
+  fold = h.fold;
+  or_member = h.or_member;
+  noted = h.noted;
+  pcr_now = h.pcr_now;
+  nv_now = h.nv_now;
+  index_order = h.index_order;
+  index_attributes = h.index_attributes;
+  object_order = subst (λ ns. are_handles 0x81000000 (0x81000000 + s.next_object) ns ≡ true) (sym (map-remove (λ (x : Object). x.handle) s.objects place))
+      (handles_remove 0x81000000 (0x81000000 + s.next_object) (map (λ (x : Object). x.handle) s.objects) place h.object_order);
+  secret = passes_remove is_secret s.objects place h.secret;
+}
+
+pub keeps-evict : (handle : ℕ) (s : Parts) → HasRules s → Keeps (evict handle s)
+keeps-evict handle s h = on (slice_get s.objects (object_place handle s.objects)) refl
+  where
+    on : (o : Option Object) → slice_get s.objects (object_place handle s.objects) ≡ o → Keeps (evict_on o handle s)
+    on None e = h
+    on (Some object) e = object_gone s (object_place handle s.objects) h (slice_get_within s.objects _ object e)
 
 -- an extend in one bank leaves the sizes
 extended_sizes : (banks : Banks) (pcr : ℕ) (given : Option (List ℕ)) (bank : Bank) (pcrs : List (List ℕ)) → HasValues banks pcrs → HasValues banks (extended_in banks pcr given bank pcrs)

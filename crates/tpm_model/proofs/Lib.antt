@@ -1,9 +1,10 @@
 pub mod PcrPlaces
 pub mod Places
 pub mod Starts
-pub mod Lists
 pub mod Handles
 pub mod TrailSteps
 pub mod KeepsRules
 pub mod AnswersFit
 pub mod FromParts
+pub mod KeepsPolicies
+pub mod KeepsIndices

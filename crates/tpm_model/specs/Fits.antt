@@ -2,6 +2,7 @@
 use Rattle.std.specs.Prelude.{ℕ, ◌^◌, nat_lt, nat_le, ◌==◌, Bool, true, false, not, ◌&&◌, ◌||◌, length}
 use Rattle.hash_bank.specs.declared.bank.Bank.{Bank}
 use Rattle.hash_bank.specs.declared.bank.Bank.TheVariants.{Sha1, Sha256, Sha384, Sha512}
+use Rattle.nv_index.specs.Handles.{is_index_handle}
 use Rattle.nv_index.specs.Attributes.{content_size, defined_attributes}
 use Rattle.nv_index.specs.declared.index.NvPublic.{NvPublic}
 use Rattle.tpm_model.specs.declared.command.Command.{Command}
@@ -24,10 +25,6 @@ is_same_bank Sha256 Sha256 = true
 is_same_bank Sha384 Sha384 = true
 is_same_bank Sha512 Sha512 = true
 is_same_bank _ _ = false
-
--- whether a handle is in the range of indices
-abbrev pub is_index_handle : ℕ → Bool
-is_index_handle handle = nat_le 0x01000000 handle && nat_le handle 0x01FFFFFF
 
 -- whether an accepted command is answered Done
 abbrev pub is_done : Command → Bool

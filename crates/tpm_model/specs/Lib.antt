@@ -3,7 +3,6 @@ pub mod StartValues
 pub mod Sessions
 pub mod Trails
 pub mod Shape
-pub mod Handles
 pub mod SessionRules
 pub mod IndexRules
 pub mod ObjectRules
@@ -13,6 +12,7 @@ pub mod Refusing
 pub mod PcrCommands
 pub mod SessionCommands
 pub mod ObjectCommands
+pub mod IndexCommands
 pub mod Respond
 pub mod Fits
 pub mod Fresh

@@ -1,5 +1,5 @@
 -- What the commands on sealed objects answer and leave.
-use Rattle.std.specs.Prelude.{ℕ, ◌+◌, nat_le, ◌==◌, Bool, not, ◌||◌, if◌then◌else◌, List, [], ◌∷◌, ◌++◌, length, Option, None, Some}
+use Rattle.std.specs.Prelude.{ℕ, ◌+◌, nat_le, ◌==◌, Bool, not, ◌||◌, if◌then◌else◌, List, [], ◌∷◌, ◌++◌, length, remove, slice_get, Option, None, Some}
 use Rattle.std.specs.Str.{bytes_eq}
 use Rattle.tpm_model.specs.declared.response.Response.{Response}
 use Rattle.tpm_model.specs.declared.response.Response.TheVariants as answer
@@ -7,7 +7,7 @@ use Rattle.tpm_model.specs.declared.response.Refusal.TheVariants as refusal
 use Rattle.tpm_model.specs.declared.sessions.Session.{Session}
 use Rattle.tpm_model.specs.declared.object.Object.{Object}
 use Rattle.tpm_model.specs.declared.parts.Parts.{Parts}
-use Rattle.tpm_model.specs.Sessions.{session_at, object_at}
+use Rattle.tpm_model.specs.Sessions.{session_at, object_at, object_place}
 use Rattle.tpm_model.specs.SessionCommands.{noted_before}
 use Rattle.tpm_model.specs.Refusing.{refused}
 
@@ -58,3 +58,12 @@ unseal_on (Some session) number handle s = unseal_of (object_at handle s.objects
 -- the secret of an object whose policy is the session's digest (TPM 2.0 Library Part 3, TPM2_Unseal)
 abbrev pub unseal : ℕ → ℕ → Parts → Response × Parts
 unseal number handle s = unseal_on (session_at number s.sessions) number handle s
+
+-- the object that was found is taken away
+abbrev pub evict_on : Option Object → ℕ → Parts → Response × Parts
+evict_on None handle s = refused (refusal.Handle handle) s
+evict_on (Some object) handle s = (answer.Done, record s { objects = remove s.objects (object_place handle s.objects) })
+
+-- takes an object away (TPM 2.0 Library Part 3, TPM2_EvictControl)
+abbrev pub evict : ℕ → Parts → Response × Parts
+evict handle s = evict_on (slice_get s.objects (object_place handle s.objects)) handle s

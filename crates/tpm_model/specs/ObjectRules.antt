@@ -3,7 +3,7 @@ use Rattle.std.specs.Prelude.{◌+◌, nat_le, Bool, ◌&&◌, map, length}
 use Rattle.std.specs.List.{list_all}
 use Rattle.tpm_model.specs.declared.object.Object.{Object}
 use Rattle.tpm_model.specs.declared.parts.Parts.{Parts}
-use Rattle.tpm_model.specs.Handles.{are_handles}
+use Rattle.nv_index.specs.Handles.{are_handles}
 
 -- the objects' handles ascend, from that of number 0 to below the next
 abbrev pub keeps_object_order : Parts → Bool

@@ -1,8 +1,17 @@
 -- What the commands on policy sessions answer and leave.
-use Rattle.std.specs.Prelude.{ℕ, ◌+◌, ◌^◌, nat_le, ◌==◌, not, if◌then◌else◌, List, [], ◌∷◌, ◌++◌, length, remove, slice_set, Option, None, Some}
+use Rattle.std.specs.Prelude.{ℕ, ◌+◌, ◌^◌, nat_le, ◌==◌, not, if◌then◌else◌, List, [], ◌∷◌, ◌++◌, length, remove, slice_set, Option, None, Some, Bool, nat_lt, ◌||◌}
+use Rattle.std.specs.Int.{w16, to_be_bytes}
+use Rattle.std.specs.List.{list_all, list_any}
+use Rattle.std.specs.Str.{bytes_eq}
 use Rattle.hash_bank.specs.declared.bank.Bank.{Bank}
 use Rattle.hash_bank.specs.Banks.{has_bank}
-use Rattle.policy_digest.specs.Policies.{policy_pcr_of}
+use Rattle.hash_bank.specs.Hash.{algorithm_in, size_in}
+use Rattle.nv_index.specs.IndexName.{index_name_of}
+use Rattle.nv_index.specs.Table.{index_at}
+use Rattle.nv_index.specs.declared.index.Index.{Index}
+use Rattle.nv_index.specs.declared.index.NvPublic.{NvPublic}
+use Rattle.nv_index.specs.declared.index.Written.{Written}
+use Rattle.policy_digest.specs.Policies.{policy_authorize_nv_of, policy_or_of, policy_pcr_of}
 use Rattle.tpm_model.specs.declared.response.Response.{Response}
 use Rattle.tpm_model.specs.declared.response.Response.TheVariants as answer
 use Rattle.tpm_model.specs.declared.response.Refusal.TheVariants as refusal
@@ -97,3 +106,64 @@ flush_on (Some session) handle s =
 -- ends a session (TPM 2.0 Library Part 3, TPM2_FlushContext)
 abbrev pub flush_session : ℕ → Parts → Response × Parts
 flush_session handle s = flush_on (session_at handle s.sessions) handle s
+
+-- a session with another digest and one more entry
+abbrev pub with_entry : List ℕ → TrailEntry → Session → Session
+with_entry digest entry session = record session { digest = digest; trail = session.trail ++ entry ∷ [] }
+
+-- whether a digest has the hash's size
+abbrev pub has_size : Bank → List ℕ → Bool
+has_size hash digest = length digest == size_in hash
+
+-- whether a list for PolicyOR has fewer than two digests, one that isn't of the session's size, or
+-- none that is the session's
+unfoldable pub is_wrong_list : Bank → List ℕ → List (List ℕ) → Bool
+is_wrong_list hash digest list = nat_lt (length list) 2 || not (list_all (has_size hash) list) || not (list_any (bytes_eq digest) list)
+
+-- PolicyOR on the session that was found
+abbrev pub policy_or_on : Option Session → ℕ → List (List ℕ) → Parts → Response × Parts
+policy_or_on None handle list s = refused (refusal.Handle handle) s
+policy_or_on (Some session) handle list s =
+    if is_wrong_list session.hash session.digest list then refused refusal.Value s
+    else if nat_le 128 (length session.trail) then refused refusal.TrailFull s
+    else (
+      answer.Done,
+      record s { sessions = with_session handle (with_entry (policy_or_of session.hash list) (entry.Or list) session) s.sessions },
+    )
+
+-- goes on where the session's digest is one of the list (TPM 2.0 Library Part 3, TPM2_PolicyOR)
+abbrev pub policy_or : ℕ → List (List ℕ) → Parts → Response × Parts
+policy_or handle list s = policy_or_on (session_at handle s.sessions) handle list s
+
+-- the content that a session of the hash with this digest meets: the hash's algorithm, and the digest
+abbrev pub content_in : Bank → List ℕ → List ℕ
+content_in hash digest = to_be_bytes w16 (algorithm_in hash) ++ digest
+
+-- PolicyAuthorizeNV by an index with this public area and last write
+abbrev pub policy_authorize_nv_by : NvPublic → Option Written → ℕ → Session → Parts → Response × Parts
+policy_authorize_nv_by public None handle session s = refused refusal.Uninitialized s
+policy_authorize_nv_by public (Some written) handle session s =
+    if not (bytes_eq written.value (content_in session.hash session.digest)) then refused refusal.Value s
+    else if nat_le 128 (length session.trail) then refused refusal.TrailFull s
+    else let name = index_name_of public in (
+      answer.Done,
+      record s {
+        sessions = with_session handle (with_entry
+            (policy_authorize_nv_of session.hash name) (entry.AuthorizeNv name session.digest written.number) session) s.sessions;
+      },
+    )
+
+-- PolicyAuthorizeNV by the index that was found
+abbrev pub policy_authorize_nv_at : Option Index → ℕ → Session → Parts → Response × Parts
+policy_authorize_nv_at None handle session s = refused refusal.NotDefined s
+policy_authorize_nv_at (Some index) handle session s = policy_authorize_nv_by index.public index.written handle session s
+
+-- PolicyAuthorizeNV on the session that was found
+abbrev pub policy_authorize_nv_on : Option Session → ℕ → ℕ → Parts → Response × Parts
+policy_authorize_nv_on None handle index s = refused (refusal.Handle handle) s
+policy_authorize_nv_on (Some session) handle index s = policy_authorize_nv_at (index_at index s.indices) handle session s
+
+-- goes on where the session's digest is the index's content (TPM 2.0 Library Part 3,
+-- TPM2_PolicyAuthorizeNV)
+abbrev pub policy_authorize_nv : ℕ → ℕ → Parts → Response × Parts
+policy_authorize_nv handle index s = policy_authorize_nv_on (session_at handle s.sessions) handle index s

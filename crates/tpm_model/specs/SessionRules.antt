@@ -13,7 +13,7 @@ use Rattle.tpm_model.specs.declared.trail.TrailEntry.{TrailEntry}
 use Rattle.tpm_model.specs.declared.trail.TrailEntry.TheVariants.{Pcr, Or, AuthorizeNv}
 use Rattle.tpm_model.specs.declared.sessions.Session.{Session}
 use Rattle.tpm_model.specs.declared.parts.Parts.{Parts}
-use Rattle.tpm_model.specs.Handles.{are_handles}
+use Rattle.nv_index.specs.Handles.{are_handles}
 use Rattle.tpm_model.specs.Pcrs.{present_digest_in}
 use Rattle.tpm_model.specs.Trails.{digest_of_in, has_pcr_entry, trail_digest}
 

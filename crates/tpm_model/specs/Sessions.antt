@@ -30,6 +30,10 @@ session_at handle sessions = slice_get sessions (session_place handle sessions)
 abbrev pub is_object : ℕ → Object → Bool
 is_object handle object = object.handle == handle
 
+-- the place of the object of the handle; where there is none, the number of all objects
+abbrev pub object_place : ℕ → List Object → ℕ
+object_place handle objects = position_or_len (is_object handle) objects
+
 -- the object of the handle
 abbrev pub object_at : ℕ → List Object → Option Object
 object_at handle objects = find (is_object handle) objects

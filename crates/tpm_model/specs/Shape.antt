@@ -6,6 +6,7 @@ use Rattle.hash_bank.specs.declared.bank.Bank.{Bank}
 use Rattle.hash_bank.specs.Hash.{size_in}
 use Rattle.nv_index.specs.declared.index.Index.{Index}
 use Rattle.nv_index.specs.declared.index.Written.{Written}
+use Rattle.nv_index.specs.Table.{has_written}
 use Rattle.policy_digest.specs.Policies.{IsPolicyHash}
 use Rattle.tpm_model.specs.declared.trail.TrailEntry.{TrailEntry}
 use Rattle.tpm_model.specs.declared.trail.TrailEntry.TheVariants.{Pcr, Or, AuthorizeNv}
@@ -43,10 +44,6 @@ pub record IsSessionShape (session : Session) : Type 0 where
   pub digest : length session.digest ≡ size_in session.hash
   pub trail : length session.trail ≤ 128
   pub entries : AllByRecursion (IsEntryShape session.hash) session.trail
-
--- whether attributes have WRITTEN, bit 29 (TPM 2.0 Library Part 2, TPMA_NV)
-abbrev pub has_written : ℕ → Bool
-has_written attributes = attributes / 2 ^ 29 % 2 == 1
 
 -- an index has a last write exactly where its attributes have WRITTEN, and the content has 34 bytes
 abbrev pub IsWrittenShape : ℕ → Option Written → Type 0

@@ -1,6 +1,6 @@
 //! Which answers fit a command.
 ghost use Rattle.std.specs.Prelude.{◌≡◌, ◌||◌, not};
-ghost use Rattle.tpm_model.specs.Fits.{fits as fits_of, has_wrong_policy as wrong_policy_of, has_wrong_value as wrong_value_of, is_done as done_of, is_index_handle as index_handle_of, is_policy as policy_of, is_same_bank, looks_into as looks_of, may_refuse as refuses_of, minds_extends as minds_of, names_handle as names_of, needs_index as needs_of, needs_written_index as needs_written_of, raises as raises_of};
+ghost use Rattle.tpm_model.specs.Fits.{fits as fits_of, has_wrong_policy as wrong_policy_of, has_wrong_value as wrong_value_of, is_done as done_of, is_policy as policy_of, is_same_bank, looks_into as looks_of, may_refuse as refuses_of, minds_extends as minds_of, names_handle as names_of, needs_index as needs_of, needs_written_index as needs_written_of, raises as raises_of};
 ghost use Rattle.tpm_model.specs.PcrCommands.{is_start_locality as start_locality_of};
 
 use crate::object::is_policy_size;
@@ -8,7 +8,7 @@ use crate::pcrs::{bank_count, is_start_locality};
 use crate::sessions::is_session_hash;
 use crate::{Command, Counter, Refusal, Response};
 use hash_bank::Bank;
-use nv_index::{CONTENT_SIZE, DEFINED_ATTRIBUTES, NvPublic};
+use nv_index::{CONTENT_SIZE, DEFINED_ATTRIBUTES, NvPublic, is_index_handle};
 
 /// Whether an accepted command is answered Done.
 fn is_done(command: &Command) -> bool
@@ -110,13 +110,6 @@ fn names_handle(handle: u32, command: &Command) -> bool
         } => handle == *session || handle == *object,
         _ => false,
     }
-}
-
-/// Whether a handle is in the range of indices.
-pub(crate) fn is_index_handle(handle: u32) -> bool
-    ensures { result ≡ index_handle_of handle }
-{
-    (0x0100_0000..=0x01FF_FFFF).contains(&handle)
 }
 
 /// Whether an index may be defined but for its policy, whose size is wrong.

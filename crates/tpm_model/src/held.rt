@@ -2,7 +2,7 @@
 use crate::pcr_values::PcrValues;
 use crate::{Object, Parts, Session};
 use hash_bank::Banks;
-use nv_index::Index;
+use nv_index::IndexTable;
 use pl_base::List;
 
 /// The parts of a state, with room for the PCR values of all four banks.
@@ -15,6 +15,6 @@ pub(crate) struct Held {
     pub(crate) write_counter: u32,
     pub(crate) next_object: u32,
     pub(crate) sessions: List<Session>,
-    pub(crate) indices: List<Index>,
+    pub(crate) indices: IndexTable,
     pub(crate) objects: List<Object>,
 }

@@ -1,8 +1,9 @@
 //! The rules on indices.
 ghost use Rattle.std.specs.Prelude.{◌≡◌, map};
-ghost use Rattle.std.specs.List.{list_all, list_any};
-ghost use Rattle.tpm_model.specs.Handles.{are_handles};
-ghost use Rattle.tpm_model.specs.IndexRules.{are_apart as apart_are, has_attributes as attributes_are, has_number as number_is, is_apart as apart_is, is_counted as counted_is, keeps_index_attributes as attributes_kept, keeps_index_order as order_kept};
+ghost use Rattle.std.specs.List.{list_all};
+ghost use Rattle.nv_index.specs.Handles.{are_handles};
+ghost use Rattle.nv_index.specs.Table.{are_apart as apart_are, has_attributes as attributes_are, has_other_number as other_number_has, is_apart as apart_is, is_counted as counted_is};
+ghost use Rattle.tpm_model.specs.IndexRules.{keeps_index_attributes as attributes_kept, keeps_index_order as order_kept};
 ghost use Rattle.nv_index.specs.declared.index.Index.{Index as IndexValue};
 
 use crate::Parts;
@@ -40,30 +41,30 @@ fn are_counted(most: u32, indices: &[Index]) -> bool
     indices.iter().all(|index| is_counted(most, index))
 }
 
-/// Whether an index's last write has this number.
-fn has_number(number: u32, index: &Index) -> bool
-    ensures { result ≡ number_is number index.now }
+/// Whether an index's last write, where there is one, has another number than this.
+fn has_other_number(number: u32, index: &Index) -> bool
+    ensures { result ≡ other_number_has number index.now }
 {
     match index.written {
-        None => false,
-        Some(written) => written.number == number,
+        None => true,
+        Some(written) => written.number != number,
     }
 }
 
-/// Whether the last write of one of the indices has this number.
-fn is_used(number: u32, indices: &[Index]) -> bool
-    ensures { result ≡ list_any (number_is number) indices.now }
+/// Whether that is so of each index.
+fn have_other_numbers(number: u32, indices: &[Index]) -> bool
+    ensures { result ≡ list_all (other_number_has number) indices.now }
 {
-    indices.iter().any(|index| has_number(number, index))
+    indices.iter().all(|index| has_other_number(number, index))
 }
 
-/// Whether no index has the number of this one's last write, where there is one.
+/// Whether each other index has another number than this one's last write, where there is one.
 fn is_apart(index: &Index, others: &[Index]) -> bool
     ensures { result ≡ apart_is index.now.written others.now }
 {
     match index.written {
         None => true,
-        Some(written) => !is_used(written.number, others),
+        Some(written) => have_other_numbers(written.number, others),
     }
 }
 

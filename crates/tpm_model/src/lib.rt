@@ -6,6 +6,7 @@
 mod command;
 mod fitting;
 mod held;
+mod index_commands;
 mod index_rules;
 mod object;
 mod object_rules;

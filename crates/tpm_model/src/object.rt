@@ -1,8 +1,8 @@
 //! Sealed objects, and the commands on them.
-ghost use Rattle.std.specs.Prelude.{◌≡◌, ◌+◌, ◌<◌, ◌≤◌, ◌==◌, [], ◌∷◌, ◌++◌, length, option_copied, IfOk, OnErr};
+ghost use Rattle.std.specs.Prelude.{◌≡◌, ◌+◌, ◌<◌, ◌≤◌, ◌==◌, [], ◌∷◌, ◌++◌, length, option_copied, position, IfOk, OnErr};
 ghost use Rattle.tpm_model.specs.Held.{parts_of};
-ghost use Rattle.tpm_model.specs.Sessions.{object_at};
-ghost use Rattle.tpm_model.specs.ObjectCommands.{is_policy_size as has_policy_size, seal, unseal};
+ghost use Rattle.tpm_model.specs.Sessions.{is_object, object_at, object_place as place_of_object};
+ghost use Rattle.tpm_model.specs.ObjectCommands.{evict, is_policy_size as has_policy_size, seal, unseal};
 
 use crate::held::Held;
 use crate::sessions::{find_session, noted_before};
@@ -72,6 +72,33 @@ pub(crate) fn sealed(held: &mut Held, policy: &Digest, secret: &Small) -> Result
     held.objects.push(object)?;
     held.next_object += 1;
     Ok(Response::Object(handle))
+}
+
+/// The place of the object of the handle.
+fn object_position(objects: &[Object], handle: u32) -> Option<usize>
+    ensures { result ≡ position (is_object handle) objects.now }
+{
+    objects.iter().position(|object| object.handle == handle)
+}
+
+/// The place of the object of the handle, or the number of objects where there is none.
+#[tactic(auto, using(crate::proofs::Places::place_or_len))]
+fn object_place(objects: &[Object], handle: u32) -> usize
+    ensures { result ≡ place_of_object handle objects.now }
+{
+    object_position(objects, handle).unwrap_or(objects.len())
+}
+
+/// Evict.
+pub(crate) fn evicted(held: &mut Held, handle: u32) -> Response
+    ensures { (result, parts_of held.new) ≡ evict handle (parts_of held.old) }
+{
+    let place = object_place(held.objects.as_slice(), handle);
+    if place >= held.objects.len() {
+        return Response::Refused(Refusal::Handle(handle));
+    }
+    let _gone = held.objects.remove(place);
+    Response::Done
 }
 
 /// Unseal.

@@ -1,6 +1,6 @@
 //! The rules on sealed objects.
 ghost use Rattle.std.specs.Prelude.{◌≡◌, ◌≤◌, map};
-ghost use Rattle.tpm_model.specs.Handles.{are_handles};
+ghost use Rattle.nv_index.specs.Handles.{are_handles};
 ghost use Rattle.tpm_model.specs.ObjectRules.{is_secret as secret_is, keeps_object_order as order_kept, keeps_secret as secret_kept};
 ghost use Rattle.tpm_model.specs.declared.object.Object.{Object as ObjectValue};
 

@@ -4,7 +4,7 @@ ghost use Rattle.std.specs.List.{AllByRecursion, list_all, list_any};
 ghost use Rattle.std.specs.Str.{bytes_eq};
 ghost use Rattle.hash_bank.specs.Hash.{size_in};
 ghost use Rattle.policy_digest.specs.Policies.{IsPolicyHash};
-ghost use Rattle.tpm_model.specs.Handles.{are_handles};
+ghost use Rattle.nv_index.specs.Handles.{are_handles};
 ghost use Rattle.tpm_model.specs.Shape.{HasShape, IsEntryShape, IsSessionShape};
 ghost use Rattle.tpm_model.specs.SessionRules.{agrees_with as agrees, has_members as members_are, has_reads as reads_are, is_folded as folded_is, is_noted as noted_is, is_read as read_is, is_up_to_date as up_to_date_is, keeps_fold as fold_kept, keeps_noted as noted_kept, keeps_nv_now as nv_now_kept, keeps_or_member as or_member_kept, keeps_pcr_now as pcr_now_kept, keeps_session_order as order_kept, lists_digest as lists, saw_present as saw};
 ghost use Rattle.tpm_model.specs.Trails.{digest_after, has_pcr_entry as pcr_entry_in, is_pcr_entry as pcr_entry_is, trail_digest as digest_of_trail};
@@ -100,7 +100,7 @@ fn is_same(before: &Digest, digest: &Digest) -> bool
 }
 
 /// Whether a list has this digest.
-fn is_listed(before: &Digest, list: &[Digest]) -> bool
+pub(crate) fn is_listed(before: &Digest, list: &[Digest]) -> bool
     ensures { result ≡ list_any (bytes_eq before.now) list.now }
 {
     list.iter().any(|digest| is_same(before, digest))

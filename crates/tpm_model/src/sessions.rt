@@ -1,19 +1,22 @@
 //! Policy sessions, and the commands on them.
-ghost use Rattle.std.specs.Prelude.{◌≡◌, ◌+◌, ◌<◌, ◌≤◌, ◌==◌, true, [], ◌∷◌, ◌++◌, length, slice_get, slice_set, Some, IsSomeAnd, option_copied, position, IfOk, OnErr};
-ghost use Rattle.std.specs.Option.{ForSome};
+ghost use Rattle.std.specs.Prelude.{◌≡◌, ◌+◌, ◌<◌, ◌≤◌, ◌==◌, true, false, [], ◌∷◌, ◌++◌, length, slice_get, slice_set, Some, IsSomeAnd, option_copied, position, IfOk, OnErr};
+ghost use Rattle.std.specs.List.{list_all};
+ghost use Rattle.std.specs.Str.{bytes_eq};
 ghost use Rattle.tpm_model.specs.Pcrs.{HasValues};
 ghost use Rattle.tpm_model.specs.Sessions.{is_session, is_session_hash as allowed, session_place as place_of_session, session_at};
-ghost use Rattle.tpm_model.specs.SessionCommands.{start_session, noted_before as noted_before_of, with_pcrs, policy_pcr, policy_get_digest, flush_session};
+ghost use Rattle.tpm_model.specs.SessionCommands.{content_in, has_size as size_has, is_wrong_list as wrong_list_is, start_session, noted_before as noted_before_of, with_entry, with_pcrs, policy_authorize_nv, policy_or, policy_pcr, policy_get_digest, flush_session};
 ghost use Rattle.tpm_model.specs.Held.{parts_of};
 ghost use Rattle.tpm_model.specs.Shape.{HasShape, IsSessionShape};
 ghost use Rattle.tpm_model.specs.declared.sessions.Session.{Session as SessionValue};
 
 use crate::held::Held;
 use crate::pcrs::present_values_digest;
+use crate::session_rules::is_listed;
 use crate::{Refusal, Response, Trail, TrailEntry};
 use hash_bank::{Bank, Digest};
+use nv_index::index_name;
 use pl_base::{List, Memory};
-use policy_digest::policy_pcr_in;
+use policy_digest::{Group, policy_authorize_nv_in, policy_or_in, policy_pcr_in};
 use std::alloc::Global;
 use std::mem;
 
@@ -171,6 +174,118 @@ pub(crate) fn pcrs_bound(
     let digest = policy_pcr_in(session.hash, &session.digest, bank, pcrs, &values);
     let entry = TrailEntry::Pcr { bank, pcrs, values };
     note(alloc, &mut held.sessions, place, &digest, now, &entry);
+    Response::Done
+}
+
+/// Puts an entry at the end of the session's trail, with the digest that it gives. It takes no
+/// memory.
+fn grow(
+    alloc: Global,
+    sessions: &mut List<Session>,
+    place: usize,
+    digest: &Digest,
+    entry: &TrailEntry,
+)
+    requires { IsSomeAnd (slice_get sessions.old place) (λ session. length session.trail < 128) }
+    ensures { (session : SessionValue) → slice_get sessions.old place ≡ Some session
+        → sessions.new ≡ slice_set sessions.old place (with_entry digest.now entry.now session) }
+{
+    let mut open = mem::replace(sessions, List::new(alloc)).into_vec();
+    let session = &mut open[place];
+    session.digest = *digest;
+    session.trail.push(*entry);
+    *sessions = List::from_vec(open);
+}
+
+/// Whether a digest has the hash's size.
+fn has_size(hash: Bank, digest: &Digest) -> bool
+    ensures { result ≡ size_has hash digest.now }
+{
+    digest.as_slice().len() == hash.size()
+}
+
+/// Whether each digest of a list has the hash's size.
+fn have_size(hash: Bank, list: &[Digest]) -> bool
+    ensures { result ≡ list_all (size_has hash) list.now }
+{
+    list.iter().all(|digest| has_size(hash, digest))
+}
+
+/// Whether a list for PolicyOR has fewer than two digests, one that isn't of the session's size, or
+/// none that is the session's.
+#[tactic(auto, unfolding(crate::specs::SessionCommands::is_wrong_list))]
+fn is_wrong_list(session: &Session, list: &[Digest]) -> bool
+    ensures value { result ≡ wrong_list_is session.now.hash session.now.digest list.now }
+    ensures several { result ≡ false → 2 ≤ length list.now }
+{
+    list.len() < 2 || !have_size(session.hash, list) || !is_listed(&session.digest, list)
+}
+
+/// PolicyOr.
+pub(crate) fn branch_joined(alloc: Global, held: &mut Held, handle: u32, list: &Group) -> Response
+    requires { HasShape (parts_of held.old) }
+    ensures value { (result, parts_of held.new) ≡ policy_or handle list.now (parts_of held.old) }
+    ensures bound { length list.now ≤ 8 }
+{
+    let digests = list.as_slice();
+    let place = session_place(held.sessions.as_slice(), handle);
+    let Some(session) = held.sessions.as_slice().get(place) else {
+        return Response::Refused(Refusal::Handle(handle));
+    };
+    if is_wrong_list(session, digests) {
+        return Response::Refused(Refusal::Value);
+    }
+    if session.trail.as_slice().len() >= TRAIL_ENTRIES {
+        return Response::Refused(Refusal::TrailFull);
+    }
+    let digest = policy_or_in(session.hash, list);
+    let entry = TrailEntry::Or { list: *list };
+    grow(alloc, &mut held.sessions, place, &digest, &entry);
+    Response::Done
+}
+
+/// Whether a content is the hash's algorithm and this digest.
+fn is_content_of(hash: Bank, digest: &Digest, content: &[u8]) -> bool
+    ensures { result ≡ bytes_eq content.now (content_in hash digest.now) }
+{
+    let [high, low] = hash.algorithm().to_be_bytes();
+    match content {
+        [first, second, rest @ ..] => {
+            *first == high && *second == low && rest == digest.as_slice()
+        }
+        _ => false,
+    }
+}
+
+/// PolicyAuthorizeNv.
+pub(crate) fn index_authorized(alloc: Global, held: &mut Held, handle: u32, index: u32) -> Response
+    requires { HasShape (parts_of held.old) }
+    ensures { (result, parts_of held.new) ≡ policy_authorize_nv handle index (parts_of held.old) }
+{
+    let place = session_place(held.sessions.as_slice(), handle);
+    let Some(session) = held.sessions.as_slice().get(place) else {
+        return Response::Refused(Refusal::Handle(handle));
+    };
+    let Some(index) = held.indices.get(index) else {
+        return Response::Refused(Refusal::NotDefined);
+    };
+    let Some(written) = index.written else {
+        return Response::Refused(Refusal::Uninitialized);
+    };
+    if !is_content_of(session.hash, &session.digest, written.value.as_slice()) {
+        return Response::Refused(Refusal::Value);
+    }
+    if session.trail.as_slice().len() >= TRAIL_ENTRIES {
+        return Response::Refused(Refusal::TrailFull);
+    }
+    let name = index_name(&index.public);
+    let digest = policy_authorize_nv_in(session.hash, &name);
+    let entry = TrailEntry::AuthorizeNv {
+        name,
+        digest: session.digest,
+        written: written.number,
+    };
+    grow(alloc, &mut held.sessions, place, &digest, &entry);
     Response::Done
 }
 

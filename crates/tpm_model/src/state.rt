@@ -3,22 +3,26 @@ ghost use Rattle.std.specs.Prelude.{◌≡◌, ◌≤◌, true, None, Some, IfOk
 ghost use Rattle.tpm_model.specs.Fits.{fits};
 ghost use Rattle.tpm_model.specs.Held.{parts_of};
 ghost use Rattle.tpm_model.specs.Pcrs.{bank_count, pcr_of};
-ghost use Rattle.tpm_model.specs.Respond.{is_offered, respond};
+ghost use Rattle.tpm_model.specs.Respond.{respond};
 ghost use Rattle.tpm_model.specs.Fresh.{fresh_parts};
 ghost use Rattle.tpm_model.specs.Rules.{HasRules, broken_rule as broken_rule_of};
 ghost use Rattle.tpm_model.specs.Shape.{HasShape};
 
 use crate::held::Held;
-use crate::object::{sealed, unsealed};
+use crate::index_commands::{
+    content_answer, index_defined, index_undefined, index_written, public_answer,
+};
+use crate::object::{evicted, sealed, unsealed};
 use crate::pcr_values::PcrValues;
 use crate::pcrs::{pcr_answer, pcr_extended, pcr_value, restarted, started};
 use crate::rules::broken_rule;
 use crate::sessions::{
-    copied_sessions, digest_answer, pcrs_bound, session_flushed, session_started,
+    branch_joined, copied_sessions, digest_answer, index_authorized, pcrs_bound, session_flushed,
+    session_started,
 };
-use crate::{Command, Object, Parts, Refusal, Response, Session, StateRule};
+use crate::{Command, Object, Parts, Response, Session, StateRule};
 use hash_bank::{Bank, Banks, Digest};
-use nv_index::Index;
+use nv_index::{Index, IndexTable};
 use pl_base::{List, Memory};
 use std::alloc::Global;
 use std::marker::Model;
@@ -57,7 +61,7 @@ impl State {
                 write_counter: 0,
                 next_object: 0,
                 sessions: List::new(alloc),
-                indices: List::new(alloc),
+                indices: IndexTable::new(alloc),
                 objects: List::new(alloc),
             },
         }
@@ -85,7 +89,7 @@ impl State {
                 write_counter: parts.write_counter,
                 next_object: parts.next_object,
                 sessions: parts.sessions,
-                indices: parts.indices,
+                indices: IndexTable::from_entries(parts.indices),
                 objects: parts.objects,
             },
         })
@@ -104,7 +108,7 @@ impl State {
                 write_counter: self.held.write_counter,
                 next_object: self.held.next_object,
                 sessions: copied_sessions(alloc, self.held.sessions.as_slice())?,
-                indices: List::from_vec(Vec::from_slice(alloc, self.held.indices.as_slice())?),
+                indices: copied_indices(alloc, &self.held.indices)?,
                 objects: List::from_vec(Vec::from_slice(alloc, self.held.objects.as_slice())?),
             },
         })
@@ -122,6 +126,14 @@ impl State {
         ensures { result ≡ pcr_of self.now.banks self.now.pcrs bank pcr }
     {
         pcr_value(self.held.banks, self.held.pcrs.as_slice(), bank, pcr)
+    }
+
+    /// For each present bank, in the order SHA-1, SHA-256, SHA-384, SHA-512, its 24 PCR values.
+    pub fn pcrs(&self) -> &[Digest]
+        ensures value { result.now ≡ self.now.pcrs }
+        ensures rules { HasRules self.now }
+    {
+        self.held.pcrs.as_slice()
     }
 
     /// The extends since the restart.
@@ -163,7 +175,7 @@ impl State {
     pub fn indices(&self) -> &[Index]
         ensures { result.now ≡ self.now.indices }
     {
-        self.held.indices.as_slice()
+        self.held.indices.entries()
     }
 
     /// The sealed objects, by rising handles.
@@ -174,10 +186,17 @@ impl State {
     }
 }
 
+/// The same indices.
+fn copied_indices(alloc: Global, indices: &IndexTable) -> Result<IndexTable, Memory>
+    ensures { IfOk result (λ copies. copies ≡ indices.now) }
+{
+    let entries = List::from_vec(Vec::from_slice(alloc, indices.entries())?);
+    Ok(IndexTable::from_entries(entries))
+}
+
 /// One command on plain parts, which keep their rules.
 fn step_held(alloc: Global, held: &mut Held, command: &Command) -> Result<Response, Memory>
-    requires rules { HasRules (parts_of held.old) }
-    requires offered { is_offered command.now ≡ true }
+    requires { HasRules (parts_of held.old) }
     ensures ok { IfOk result (λ answer. (answer, parts_of held.new) ≡ respond command.now (parts_of held.old)) }
     ensures err { OnErr result (parts_of held.new ≡ parts_of held.old) }
     ensures rules { HasRules (parts_of held.new) }
@@ -196,21 +215,22 @@ fn step_held(alloc: Global, held: &mut Held, command: &Command) -> Result<Respon
         Command::FlushSession { session } => Ok(session_flushed(held, session)),
         Command::Seal { policy, secret } => sealed(held, &policy, &secret),
         Command::Unseal { session, handle } => Ok(unsealed(held, session, handle)),
-        Command::PolicyOr { .. }
-        | Command::PolicyAuthorizeNv { .. }
-        | Command::NvDefine { .. }
-        | Command::NvUndefine { .. }
-        | Command::NvWrite { .. }
-        | Command::NvRead { .. }
-        | Command::NvReadPublic { .. }
-        | Command::Evict { .. } => Ok(Response::Refused(Refusal::Value)),
+        Command::PolicyOr { session, list } => Ok(branch_joined(alloc, held, session, &list)),
+        Command::PolicyAuthorizeNv { session, index } => {
+            Ok(index_authorized(alloc, held, session, index))
+        }
+        Command::NvDefine { public } => index_defined(held, &public),
+        Command::NvUndefine { index } => Ok(index_undefined(held, index)),
+        Command::NvWrite { index, pin, value } => Ok(index_written(held, index, &pin, &value)),
+        Command::NvRead { index } => Ok(content_answer(held, index)),
+        Command::NvReadPublic { index } => Ok(public_answer(held, index)),
+        Command::Evict { handle } => Ok(evicted(held, handle)),
     }
 }
 
 /// Executes a command. The answer fits it. After a refusal or want of memory the state is as before;
-/// only StartSession and Seal take memory.
+/// only StartSession, NvDefine and Seal take memory.
 pub fn step(alloc: Global, state: &mut State, command: &Command) -> Result<Response, Memory>
-    requires { is_offered command.now ≡ true }
     ensures ok { IfOk result (λ answer. (answer, state.new) ≡ respond command.now state.old) }
     ensures err { OnErr result (state.new ≡ state.old) }
     ensures rules { HasRules state.old × HasRules state.new }

@@ -1,6 +1,6 @@
 use Rattle.std.proofs.Common.{◌≡◌, map, drop}
 use Rattle.nv_index.specs.declared.index.Index.{Index}
-use Rattle.tpm_model.specs.Handles.{are_handles}
+use Rattle.nv_index.specs.Handles.{are_handles}
 use Rattle.tpm_model.proofs.index_rules.are_index_handles.Given as goal
 
 -- what is left ascends from the next handle exactly where all ascend from the first

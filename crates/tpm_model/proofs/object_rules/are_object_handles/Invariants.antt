@@ -1,6 +1,6 @@
 use Rattle.std.proofs.Common.{◌≡◌, map, drop}
 use Rattle.tpm_model.specs.declared.object.Object.{Object}
-use Rattle.tpm_model.specs.Handles.{are_handles}
+use Rattle.nv_index.specs.Handles.{are_handles}
 use Rattle.tpm_model.proofs.object_rules.are_object_handles.Given as goal
 
 -- what is left ascends from the next handle exactly where all ascend from the first

@@ -1,0 +1,14 @@
+pub mod Loops
+pub mod Appends
+pub mod Fields
+pub mod Repeats
+pub mod HeaderLaws
+pub mod EntryLaws
+pub mod SessionLaws
+pub mod IndexLaws
+pub mod ObjectLaws
+pub mod LayoutLaws
+pub mod Lengths
+pub mod Shapes
+pub mod Decoded
+pub mod Stores

@@ -1,0 +1,10 @@
+pub mod Field
+pub mod Header
+pub mod Entries
+pub mod Sessions
+pub mod Indices
+pub mod Objects
+pub mod Layout
+pub mod Spelling
+pub mod Decoding
+pub mod Storing

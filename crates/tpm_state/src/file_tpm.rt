@@ -1,0 +1,198 @@
+//! A TPM that is kept in a file.
+ghost use Rattle.std.specs.Prelude.{◌≡◌, ◌≢◌, ◌⊎◌, ◌≤◌, ◌↔◌, ℕ, Bool, true, false, Option, None, Some, is_some, is_ok, Ok, Err, IfOk, IfSome, length, MatchOption};
+ghost use Rattle.std.specs.FinMap.{get};
+ghost use Rattle.pl_base.specs.Faults.{HasCause};
+ghost use Rattle.pl_base.specs.FileMap.{FileMap};
+ghost use Rattle.tpm_model.specs.declared.parts.Parts.{Parts};
+ghost use Rattle.tpm_model.specs.Fits.{fits};
+ghost use Rattle.tpm_model.specs.Fresh.{fresh_parts};
+ghost use Rattle.tpm_model.specs.Respond.{is_offered, respond};
+ghost use Rattle.tpm_model.specs.Rules.{HasRules};
+ghost use Rattle.tpm_device.specs.Stored.{Stored, Holds, BeginGives, ExecuteGives, ExecuteStores, stays_ready};
+ghost use Rattle.tpm_state.specs.declared.version.Version.TheVariants.{Two};
+ghost use Rattle.tpm_state.specs.Layout.{text_of};
+ghost use Rattle.tpm_state.specs.Decoding.{state_of};
+ghost use Rattle.tpm_state.specs.Storing.{all_banks, stored_as, stored_by, stored_in, StateGives, StoreLeaves};
+
+use crate::{DecodeError, decode, encode};
+use hash_bank::Banks;
+use pl_base::{Files, Memory, Name, ReadError, ReplaceError};
+use std::alloc::Global;
+use tpm_device::{BeginError, ExecError, Tpm};
+use tpm_model::{Command, Response, State, step};
+
+/// The most bytes of a state file.
+const LIMIT: u64 = 16_777_216;
+
+/// A TPM whose state is kept in a file, and that has none of its own until it is made ready.
+#[derive(Debug, Drop)]
+pub struct FileTpm<F: Files> {
+    files: F,
+    path: Name,
+    live: Option<State>,
+}
+
+impl<F: Files> FileTpm<F> {
+    /// The TPM that is kept at the path. It isn't ready yet, and nothing is read.
+    pub fn new(files: F, path: Name) -> FileTpm<F>
+        ensures { result ≡ record { files = files; path = path; live = None } }
+    {
+        FileTpm {
+            files,
+            path,
+            live: None,
+        }
+    }
+
+    /// The files, as they are.
+    pub fn into_files(self) -> F
+        ensures { result ≡ self.files }
+    {
+        let FileTpm { files, .. } = self;
+        files
+    }
+}
+
+/// A TPM that was never used, with all banks.
+fn fresh_state(alloc: Global) -> State
+    ensures { result ≡ fresh_parts all_banks }
+{
+    State::fresh(alloc, Banks::all())
+}
+
+/// The state that a file's bytes hold.
+fn state_in(alloc: Global, bytes: &[u8]) -> Result<State, BeginError>
+    ensures told { StateGives (stored_as (state_of bytes.now)) result }
+    ensures fine { result ≢ Err BeginError.Failed }
+{
+    match decode(alloc, bytes) {
+        Ok(state) => Ok(state),
+        Err(DecodeError::Malformed(place)) => Err(BeginError::Malformed(place)),
+        Err(DecodeError::BadRule(rule)) => Err(BeginError::BadRule(rule)),
+        Err(DecodeError::Memory) => Err(BeginError::Memory),
+    }
+}
+
+/// The state that the file at the path stores.
+fn stored_state<F: Files>(files: &mut F, alloc: Global, path: &str) -> Result<State, BeginError>
+    ensures cause { HasCause (F.faults files.old) (F.faults files.new) (result ≡ Err BeginError.Failed) }
+    ensures told { (map : FileMap) → F.held files.old ≡ Some map → StateGives (stored_by (get map path.now)) result }
+    ensures same { F.held files.new ≡ F.held files.old }
+{
+    match files.read(alloc, path, LIMIT) {
+        Ok(bytes) => state_in(alloc, bytes.as_slice()),
+        Err(ReadError::Missing) => Ok(fresh_state(alloc)),
+        Err(ReadError::TooLarge(size)) => Err(BeginError::TooLarge(size)),
+        Err(ReadError::Failed) => Err(BeginError::Failed),
+        Err(ReadError::Memory) => Err(BeginError::Memory),
+    }
+}
+
+/// One step on a copy of a state: the answer and the next state.
+fn next_state(alloc: Global, live: &State, command: &Command) -> Result<(Response, State), Memory>
+    requires { is_offered command.now ≡ true }
+    ensures value { IfOk result (λ next. next ≡ respond command.now live.now) }
+    ensures fitting { IfOk result (λ next. fits command.now next.0 ≡ true) }
+    ensures rules { IfOk result (λ next. HasRules next.1) }
+{
+    let mut next = live.copy(alloc)?;
+    let response = step(alloc, &mut next, command)?;
+    Ok((response, next))
+}
+
+/// The text of the next state, where it isn't the live one.
+fn changed_text(alloc: Global, live: &State, next: &State) -> Result<Option<Vec<u8>>, Memory>
+    ensures same { IfOk result (λ text. text ≡ None → next.now ≡ live.now) }
+    ensures stored { IfOk result (λ text. IfSome text (λ bytes. stored_by (Some bytes.items) ≡ Holds next.now)) }
+    ensures other { next.now ≡ live.now → IfOk result (λ text. text ≡ None) }
+{
+    let before = encode(alloc, live)?;
+    let after = encode(alloc, next)?;
+    if before.as_slice() == after.as_slice() {
+        Ok(None)
+    } else {
+        Ok(Some(after))
+    }
+}
+
+/// Stores a text at the path.
+fn store<F: Files>(
+    files: &mut F,
+    alloc: Global,
+    path: &str,
+    text: &[u8],
+) -> Result<(), ReplaceError>
+    ensures cause { HasCause (F.faults files.old) (F.faults files.new) (result ≡ Err ReplaceError.Failed) }
+    ensures stored { (kept : Stored) → stored_in (F.held files.old) path.now ≡ Some kept → StoreLeaves kept (stored_by (Some text.now)) result (stored_in (F.held files.new) path.now) }
+{
+    files.replace(alloc, path, text)
+}
+
+impl<F: Files> Tpm for FileTpm<F> {
+    ghost live = { λ tpm. tpm.live };
+
+    ghost stored = { λ tpm. stored_in (F.held tpm.files) tpm.path };
+
+    ghost ready = { λ tpm. is_some tpm.live };
+
+    ghost faults = { λ tpm. F.faults tpm.files };
+
+    fn begin(&mut self, alloc: Global) -> Result<(), BeginError>
+        ensures cause { HasCause (F.faults self.old.files) (F.faults self.new.files) (result ≡ Err BeginError.Failed) }
+        ensures readiness { is_some self.new.live ≡ is_ok result }
+        ensures told { (kept : Stored) → stored_in (F.held self.old.files) self.old.path ≡ Some kept → BeginGives kept result self.new.live }
+        ensures same { stored_in (F.held self.new.files) self.new.path ≡ stored_in (F.held self.old.files) self.old.path }
+        // Nothing is written, and the TPM stays in its file.
+        ensures quiet { F.held self.new.files ≡ F.held self.old.files }
+        ensures path { self.new.path ≡ self.old.path }
+    {
+        let (live, answer) = match stored_state(&mut self.files, alloc, self.path.text()) {
+            Ok(state) => (Some(state), Ok(())),
+            Err(error) => (None, Err(error)),
+        };
+        self.live = live;
+        answer
+    }
+
+    fn is_ready(&self) -> bool {
+        self.live.is_some()
+    }
+
+    fn execute(&mut self, alloc: Global, command: &Command) -> Result<Response, ExecError>
+        requires readiness { is_some self.old.live ≡ true }
+        requires offered { is_offered command.now ≡ true }
+        ensures cause { HasCause (F.faults self.old.files) (F.faults self.new.files) (result ≡ Err ExecError.Failed) }
+        ensures fitting { IfOk result (λ answer. fits command.now answer ≡ true) }
+        ensures readiness { is_some self.new.live ≡ stays_ready result }
+        ensures told { (s : Parts) → self.old.live ≡ Some s → ExecuteGives command.now s result (is_some self.new.live) self.new.live }
+        ensures rules { (s : Parts) → self.old.live ≡ Some s → HasRules s → IfSome self.new.live HasRules }
+        ensures stored { (s : Parts) → self.old.live ≡ Some s → stored_in (F.held self.old.files) self.old.path ≡ Some (Holds s) → ExecuteStores command.now s result (stored_in (F.held self.new.files) self.new.path) }
+        // A command that leaves an equal state writes nothing, and the TPM stays in its file.
+        ensures quiet { (s : Parts) → self.old.live ≡ Some s → (respond command.now s).1 ≡ s → F.held self.new.files ≡ F.held self.old.files }
+        ensures path { self.new.path ≡ self.old.path }
+    {
+        let Some(live) = &self.live else {
+            unreachable!()
+        };
+        let Ok((response, next)) = next_state(alloc, live, command) else {
+            return Err(ExecError::Memory);
+        };
+        let Ok(text) = changed_text(alloc, live, &next) else {
+            return Err(ExecError::Memory);
+        };
+        let Some(text) = text else {
+            return Ok(response);
+        };
+        match store(&mut self.files, alloc, self.path.text(), text.as_slice()) {
+            Ok(()) => {
+                self.live = Some(next);
+                Ok(response)
+            }
+            Err(ReplaceError::Failed) => {
+                self.live = None;
+                Err(ExecError::Failed)
+            }
+            Err(ReplaceError::Memory) => Err(ExecError::Memory),
+        }
+    }
+}
