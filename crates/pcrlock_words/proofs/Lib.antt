@@ -1,4 +1,6 @@
 pub mod LineLemmas
 pub mod Bytes
-pub mod OptionLemmas
 pub mod Numbers
+pub mod ParserWords
+pub mod ParserReads
+pub mod ParserSet

@@ -6,7 +6,7 @@ ghost use Rattle.pcrlock_words.specs.Values.{bank_of, defaulted, index_of, key_o
 
 use crate::command::Command;
 use crate::error::WordsError;
-use crate::options::Options;
+use crate::options::{Options, texts};
 use crate::request::Request;
 use crate::values::{read_bank, read_hex, read_index, read_key, read_path, read_pcr};
 use hash_bank::Bank;
@@ -68,9 +68,8 @@ fn read_line(
     let Some(command) = Command::from_name(within, name.text()) else {
         return Err(WordsError::BadWords);
     };
-    let Some(options) = Options::read(command, within, words) else {
-        return Err(WordsError::BadWords);
-    };
+    let texts = texts(alloc, words)?;
+    let options = Options::read(alloc, command, within, texts.as_slice())?;
     read_command(alloc, command, &options, script_policy)
 }
 

@@ -1,11 +1,11 @@
-use Rattle.std.proofs.Common.{◌≡◌, ℕ, List, ◌∷◌, Option, Some, is_some, sym, ap, ◌∙◌, subst}
+use Rattle.std.proofs.Common.{◌≡◌, ℕ, List, ◌∷◌, Option, Some, is_some, map, sym, ap, ◌∙◌, subst}
 use Rattle.std.specs.Prelude.{option_copied}
 use Rattle.pcrlock_words.specs.declared.command.Command.{Command}
 use Rattle.pcrlock_words.specs.Options.{Given}
 use Rattle.pcrlock_words.specs.Commands.{command_named, options_for}
 use Rattle.pcrlock_words.specs.Readings.{Gives}
 use Rattle.pcrlock_words.specs.Requests.{command_request, line_request}
-use Rattle.pcrlock_words.proofs.OptionLemmas.{is_some-copied}
+use Rattle.pcrlock_words.proofs.Bytes.{is_some-copied}
 use Rattle.pcrlock_words.proofs.read.read_line.Goals as goal
 
 -- a command's name and good options behind it
@@ -22,6 +22,9 @@ returns c =
     let named : command_named (is_some policy) name ≡ Some command =
     sym
     (c.in-Some-from_name.ensures ∙ ap (λ w. command_named w c.text.result.now) within ∙ ap (command_named (is_some policy)) c.text.ensures) in
-    let given : options_for (is_some policy) command words ≡ Some c.in-Some-read.options =
-    sym (c.in-Some-read.ensures ∙ ap (λ w. options_for w command words) within) in
-    subst (Gives c.read_command.result) (sym (ap (line_request policy) c.in-Some.ensures.cases.0 ∙ line_reads policy name words command c.in-Some-read.options named given)) c.read_command.ensures
+    let texts_are : map (λ text. text.now) c.as_slice.result.now ≡ words = ap (map (λ text. text.now)) c.as_slice.ensures.value ∙ c.in_ok-texts.ensures in
+    let given : options_for (is_some policy) command words ≡ Some c.in_ok-options.options =
+    ap (options_for (is_some policy) command) (sym texts_are)
+    ∙ ap (λ w. options_for w command (map (λ text. text.now) c.as_slice.result.now)) (sym within)
+    ∙ c.in_ok-options.ensures in
+    subst (Gives c.read_command.result) (sym (ap (line_request policy) c.in-Some.ensures.cases.0 ∙ line_reads policy name words command c.in_ok-options.options named given)) c.read_command.ensures
