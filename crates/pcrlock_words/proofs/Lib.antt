@@ -4,3 +4,4 @@ pub mod Numbers
 pub mod ParserWords
 pub mod ParserReads
 pub mod ParserSet
+pub mod Lists

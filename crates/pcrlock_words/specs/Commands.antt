@@ -1,25 +1,32 @@
 -- The commands and the options of each.
-use Rattle.std.specs.Prelude.{ℕ, Bool, true, false, ◌||◌, not, List, [], ◌∷◌, codes, find, filter, Option}
+use Rattle.std.specs.Prelude.{ℕ, Bool, true, false, ◌||◌, ◌&&◌, not, List, [], ◌∷◌, codes, find, filter, Option}
 use Rattle.std.specs.Str.{bytes_eq}
 use Rattle.pcrlock_words.specs.Options.{Entry, Given, given, accepted}
 use Rattle.pcrlock_words.specs.declared.command.Command.{Command}
-use Rattle.pcrlock_words.specs.declared.command.Command.TheVariants.{Script, Enroll, Unseal, TpmExtend}
+use Rattle.pcrlock_words.specs.declared.command.Command.TheVariants.{Script, Cel, ListComponents, Enroll, Unseal, TpmBoot, TpmExtend}
 
--- the commands: all of them outside a script, and inside one all but `script`
-abbrev pub commands : Bool → List Command
-commands false = Script ∷ Enroll ∷ Unseal ∷ TpmExtend ∷ []
-commands true = Enroll ∷ Unseal ∷ TpmExtend ∷ []
+-- the commands
+abbrev pub commands : List Command
+commands = Script ∷ Cel ∷ ListComponents ∷ Enroll ∷ Unseal ∷ TpmBoot ∷ TpmExtend ∷ []
 
 -- the word that names a command
 abbrev pub name_of : Command → List ℕ
 name_of Script = codes "script"
+name_of Cel = codes "cel"
+name_of ListComponents = codes "list-components"
 name_of Enroll = codes "enroll"
 name_of Unseal = codes "unseal"
+name_of TpmBoot = codes "tpm-boot"
 name_of TpmExtend = codes "tpm-extend"
+
+-- whether a command may stand there: inside a script all but `script`, and outside each
+abbrev pub may_stand : Bool → Command → Bool
+may_stand within Script = not within
+may_stand within command = true
 
 -- the command that a word names, inside a script or outside
 abbrev pub command_named : Bool → List ℕ → Option Command
-command_named within name = find (λ command. bytes_eq (name_of command) name) (commands within)
+command_named within name = find (λ command. may_stand within command && bytes_eq (name_of command) name) commands
 
 -- an option that has to be given, and one that may be left out
 abbrev pub needed : List ℕ → Entry
@@ -31,9 +38,13 @@ free name = record { name = name; is_needed = false }
 -- the table of each command's options
 abbrev pub table : Command → List Entry
 table Script = needed (codes "file") ∷ free (codes "policy") ∷ free (codes "index") ∷ []
+table Cel = free (codes "firmware-log") ∷ free (codes "userspace-log") ∷ []
+table ListComponents = free (codes "components") ∷ []
 table Enroll =
     needed (codes "token") ∷ free (codes "policy") ∷ free (codes "key") ∷ free (codes "literal") ∷ free (codes "bank") ∷ []
 table Unseal = needed (codes "token") ∷ free (codes "policy") ∷ []
+table TpmBoot =
+    free (codes "firmware-log") ∷ free (codes "userspace-log") ∷ free (codes "locality") ∷ free (codes "banks") ∷ []
 table TpmExtend = needed (codes "pcr") ∷ free (codes "text") ∷ free (codes "hex") ∷ []
 
 -- the options that the command `script` gives for each of its lines

@@ -1,7 +1,7 @@
 ghost use Rattle.std.specs.Prelude.{◌≡◌, IfOk, map, false};
 ghost use Rattle.clap.specs.Words.{app_of, rule_of};
 ghost use Rattle.pcrlock_words.specs.Parser.{entry_of, parser_for, rule_for};
-ghost use Rattle.pcrlock_words.specs.Commands.{command_named, options_of, stands, table};
+ghost use Rattle.pcrlock_words.specs.Commands.{command_named, may_stand, name_of, options_of, stands, table};
 
 use Entry::{Free, Needed};
 use clap::Arg;
@@ -11,8 +11,11 @@ use std::alloc::{AllocError, Global};
 #[derive(Clone, Copy, Debug, PartialEq, Eq)]
 pub(crate) enum Command {
     Script,
+    Cel,
+    ListComponents,
     Enroll,
     Unseal,
+    TpmBoot,
     TpmExtend,
 }
 
@@ -25,6 +28,10 @@ enum Entry {
 
 static SCRIPT: [Entry; 3] = [Needed("file"), Free("policy"), Free("index")];
 
+static CEL: [Entry; 2] = [Free("firmware-log"), Free("userspace-log")];
+
+static LIST_COMPONENTS: [Entry; 1] = [Free("components")];
+
 static ENROLL: [Entry; 5] = [
     Needed("token"),
     Free("policy"),
@@ -34,6 +41,13 @@ static ENROLL: [Entry; 5] = [
 ];
 
 static UNSEAL: [Entry; 2] = [Needed("token"), Free("policy")];
+
+static TPM_BOOT: [Entry; 4] = [
+    Free("firmware-log"),
+    Free("userspace-log"),
+    Free("locality"),
+    Free("banks"),
+];
 
 static TPM_EXTEND: [Entry; 3] = [Needed("pcr"), Free("text"), Free("hex")];
 
@@ -62,17 +76,48 @@ impl Entry {
 }
 
 impl Command {
-    // The command of a name; inside a script there is no command `script`.
+    // Every command.
+    const ALL: [Command; 7] = [
+        Command::Script,
+        Command::Cel,
+        Command::ListComponents,
+        Command::Enroll,
+        Command::Unseal,
+        Command::TpmBoot,
+        Command::TpmExtend,
+    ];
+
+    // The word that names the command.
+    fn name(self) -> &'static str
+        ensures { result.now ≡ name_of self }
+    {
+        match self {
+            Command::Script => "script",
+            Command::Cel => "cel",
+            Command::ListComponents => "list-components",
+            Command::Enroll => "enroll",
+            Command::Unseal => "unseal",
+            Command::TpmBoot => "tpm-boot",
+            Command::TpmExtend => "tpm-extend",
+        }
+    }
+
+    // Whether the command may stand there: inside a script all but `script`, and outside each.
+    fn may_stand(self, within: bool) -> bool
+        ensures { result ≡ may_stand within self }
+    {
+        match self {
+            Command::Script => !within,
+            _ => true,
+        }
+    }
+
+    // The command of a name, inside a script or outside.
     pub(crate) fn from_name(within: bool, name: &str) -> Option<Command>
         ensures { result ≡ command_named within name.now }
     {
-        match name {
-            "script" => (!within).then_some(Command::Script),
-            "enroll" => Some(Command::Enroll),
-            "unseal" => Some(Command::Unseal),
-            "tpm-extend" => Some(Command::TpmExtend),
-            _ => None,
-        }
+        Command::ALL.iter().copied().find(|command| command.may_stand(within)
+            && command.name() == name)
     }
 
     // The table of the command's options.
@@ -81,8 +126,11 @@ impl Command {
     {
         match self {
             Command::Script => SCRIPT.as_slice(),
+            Command::Cel => CEL.as_slice(),
+            Command::ListComponents => LIST_COMPONENTS.as_slice(),
             Command::Enroll => ENROLL.as_slice(),
             Command::Unseal => UNSEAL.as_slice(),
+            Command::TpmBoot => TPM_BOOT.as_slice(),
             Command::TpmExtend => TPM_EXTEND.as_slice(),
         }
     }
