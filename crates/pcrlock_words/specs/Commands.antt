@@ -24,9 +24,13 @@ abbrev pub may_stand : Bool → Command → Bool
 may_stand within Script = not within
 may_stand within command = true
 
+-- whether a word is the name of a command that may stand there
+abbrev pub is_named : Bool → List ℕ → Command → Bool
+is_named within name command = may_stand within command && bytes_eq (name_of command) name
+
 -- the command that a word names, inside a script or outside
 abbrev pub command_named : Bool → List ℕ → Option Command
-command_named within name = find (λ command. may_stand within command && bytes_eq (name_of command) name) commands
+command_named within name = find (is_named within name) commands
 
 -- an option that has to be given, and one that may be left out
 abbrev pub needed : List ℕ → Entry

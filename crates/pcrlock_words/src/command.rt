@@ -1,7 +1,7 @@
 ghost use Rattle.std.specs.Prelude.{◌≡◌, IfOk, map, false};
 ghost use Rattle.clap.specs.Words.{app_of, rule_of};
 ghost use Rattle.pcrlock_words.specs.Parser.{entry_of, parser_for, rule_for};
-ghost use Rattle.pcrlock_words.specs.Commands.{command_named, may_stand, name_of, options_of, stands, table};
+ghost use Rattle.pcrlock_words.specs.Commands.{command_named, is_named, may_stand, name_of, options_of, stands, table};
 
 use Entry::{Free, Needed};
 use clap::Arg;
@@ -112,12 +112,19 @@ impl Command {
         }
     }
 
+    // Whether the name is the command's, and the command may stand there.
+    fn is_named(self, within: bool, name: &str) -> bool
+        ensures { result ≡ is_named within name.now self }
+    {
+        self.may_stand(within) && self.name() == name
+    }
+
     // The command of a name, inside a script or outside.
     pub(crate) fn from_name(within: bool, name: &str) -> Option<Command>
         ensures { result ≡ command_named within name.now }
     {
-        Command::ALL.iter().copied().find(|command| command.may_stand(within)
-            && command.name() == name)
+        let mut commands = Command::ALL.iter().copied();
+        commands.find(|command| command.is_named(within, name))
     }
 
     // The table of the command's options.
