@@ -1,5 +1,6 @@
 -- The test of two texts.
-use Rattle.std.proofs.Common.{◌≡◌, ℕ, false, List, sym, inl, inr}
+use Rattle.std.proofs.Common.{◌≡◌, ℕ, false, List, Bor, Option, Some, None, is_some, refl, sym, inl, inr}
+use Rattle.std.specs.Prelude.{option_copied}
 use Rattle.std.specs.Str.{bytes_eq}
 use Rattle.std.proofs.lemmas.Bool.{cases_Bool}
 use Rattle.std.proofs.lemmas.Slice.Eq.{bytes_eq-Decides}
@@ -11,3 +12,8 @@ bytes_eq-differ xs ys differ =
       | inl same ↦ absurd (differ (sym ((bytes_eq-Decides xs ys).0 same)))
       | inr other ↦ other
     ]
+
+-- the value that a read found, as a value
+pub is_some-copied : (found : Option (Bor (List ℕ))) → is_some (option_copied found) ≡ is_some found
+is_some-copied None = refl
+is_some-copied (Some value) = refl

@@ -1,4 +1,7 @@
 pub mod LineLemmas
 pub mod Bytes
-pub mod OptionLemmas
 pub mod Numbers
+pub mod ParserWords
+pub mod ParserReads
+pub mod ParserSet
+pub mod Lists

@@ -1,43 +1,68 @@
 -- The commands and the options of each.
-use Rattle.std.specs.Prelude.{ℕ, Bool, true, false, if◌then◌else◌, List, [], ◌∷◌, ◌++◌, codes, find, Option, Some, None}
-use Rattle.std.specs.List.{list_any}
+use Rattle.std.specs.Prelude.{ℕ, Bool, true, false, ◌||◌, ◌&&◌, not, List, [], ◌∷◌, codes, find, filter, Option}
 use Rattle.std.specs.Str.{bytes_eq}
-use Rattle.pcrlock_words.specs.Options.{Given, given, are_accepted, options_in}
+use Rattle.pcrlock_words.specs.Options.{Entry, Given, given, accepted}
 use Rattle.pcrlock_words.specs.declared.command.Command.{Command}
-use Rattle.pcrlock_words.specs.declared.command.Command.TheVariants.{Script, Enroll, Unseal, TpmExtend}
+use Rattle.pcrlock_words.specs.declared.command.Command.TheVariants.{Script, Cel, ListComponents, Enroll, Unseal, TpmBoot, TpmExtend}
 
--- the commands: all of them outside a script, and inside one all but `script`
-abbrev pub commands : Bool → List Command
-commands false = Script ∷ Enroll ∷ Unseal ∷ TpmExtend ∷ []
-commands true = Enroll ∷ Unseal ∷ TpmExtend ∷ []
+-- the commands
+abbrev pub commands : List Command
+commands = Script ∷ Cel ∷ ListComponents ∷ Enroll ∷ Unseal ∷ TpmBoot ∷ TpmExtend ∷ []
 
 -- the word that names a command
 abbrev pub name_of : Command → List ℕ
 name_of Script = codes "script"
+name_of Cel = codes "cel"
+name_of ListComponents = codes "list-components"
 name_of Enroll = codes "enroll"
 name_of Unseal = codes "unseal"
+name_of TpmBoot = codes "tpm-boot"
 name_of TpmExtend = codes "tpm-extend"
+
+-- whether a command may stand there: inside a script all but `script`, and outside each
+abbrev pub may_stand : Bool → Command → Bool
+may_stand within Script = not within
+may_stand within command = true
+
+-- whether a word is the name of a command that may stand there
+abbrev pub is_named : Bool → List ℕ → Command → Bool
+is_named within name command = may_stand within command && bytes_eq (name_of command) name
 
 -- the command that a word names, inside a script or outside
 abbrev pub command_named : Bool → List ℕ → Option Command
-command_named within name = find (λ command. bytes_eq (name_of command) name) (commands within)
+command_named within name = find (is_named within name) commands
 
--- `--policy`, which inside a script no line has, since it holds for the whole script
-abbrev pub policy_option : Bool → List (List ℕ)
-policy_option within = if within then [] else codes "policy" ∷ []
+-- an option that has to be given, and one that may be left out
+abbrev pub needed : List ℕ → Entry
+needed name = record { name = name; is_needed = true }
 
--- the names of a command's options, inside a script or outside
-abbrev pub options_of : Bool → Command → List (List ℕ)
-options_of within Script = codes "file" ∷ codes "policy" ∷ codes "index" ∷ []
-options_of within Enroll = policy_option within ++ codes "token" ∷ codes "key" ∷ codes "literal" ∷ codes "bank" ∷ []
-options_of within Unseal = policy_option within ++ codes "token" ∷ []
-options_of within TpmExtend = codes "pcr" ∷ codes "text" ∷ codes "hex" ∷ []
+abbrev pub free : List ℕ → Entry
+free name = record { name = name; is_needed = false }
 
--- whether a command has an option of this name
-abbrev pub takes : Bool → Command → List ℕ → Bool
-takes within command name = list_any (λ option. bytes_eq option name) (options_of within command)
+-- the table of each command's options
+abbrev pub table : Command → List Entry
+table Script = needed (codes "file") ∷ free (codes "policy") ∷ free (codes "index") ∷ []
+table Cel = free (codes "firmware-log") ∷ free (codes "userspace-log") ∷ []
+table ListComponents = free (codes "components") ∷ []
+table Enroll =
+    needed (codes "token") ∷ free (codes "policy") ∷ free (codes "key") ∷ free (codes "literal") ∷ free (codes "bank") ∷ []
+table Unseal = needed (codes "token") ∷ free (codes "policy") ∷ []
+table TpmBoot =
+    free (codes "firmware-log") ∷ free (codes "userspace-log") ∷ free (codes "locality") ∷ free (codes "banks") ∷ []
+table TpmExtend = needed (codes "pcr") ∷ free (codes "text") ∷ free (codes "hex") ∷ []
 
--- the options that words give, where each is one of the command's and none is given twice
+-- the options that the command `script` gives for each of its lines
+abbrev pub is_of_script : Entry → Bool
+is_of_script entry = bytes_eq entry.name (codes "policy") || bytes_eq entry.name (codes "index")
+
+-- whether an option stands with its command: outside a script each does
+abbrev pub stands : Bool → Entry → Bool
+stands within entry = not within || not (is_of_script entry)
+
+-- the options of a command, inside a script or outside
+abbrev pub options_of : Bool → Command → List Entry
+options_of within command = filter (stands within) (table command)
+
+-- the options that words give, where a command takes them
 abbrev pub options_for : Bool → Command → List (List ℕ) → Option (List Given)
-options_for within command words =
-    if are_accepted (takes within command) (given words) then Some (options_in words) else None
+options_for within command words = accepted (options_of within command) (given words)

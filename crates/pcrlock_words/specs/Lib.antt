@@ -4,4 +4,5 @@ pub mod Options
 pub mod Values
 pub mod Readings
 pub mod Commands
+pub mod Parser
 pub mod Requests

@@ -1,9 +1,14 @@
 -- The options that words give. Each is one word, `--name=value`, or two, `--name` and `value`.
-use Rattle.std.specs.Prelude.{ℕ, Bool, true, false, ◌==◌, ◌&&◌, not, nat_eq, nat_lt, if◌then◌else◌, List, [], ◌∷◌, length, drop, slice_index, codes, find, Option, Some, None, is_some, unwrap_or, option_map, option_and_then}
-use Rattle.std.specs.List.{starts_with, position_or_len, before_first, after_first, list_any}
+use Rattle.std.specs.Prelude.{ℕ, Bool, true, ◌==◌, ◌&&◌, not, nat_eq, if◌then◌else◌, List, [], ◌∷◌, drop, slice_index, codes, find, Option, Some, None, is_some, option_map, option_and_then}
+use Rattle.std.specs.List.{starts_with, before_first, after_first, list_any}
 use Rattle.std.specs.Str.{bytes_eq}
 
--- an option's name, without its dashes, and its value
+-- an option of a command: its name, and whether it has to be given
+pub record Entry : Type 0 where
+  pub name : List ℕ
+  pub is_needed : Bool
+
+-- an option that words give: its name, without the dashes, and its value
 abbrev pub Given : Type 0
 Given = List ℕ × List ℕ
 
@@ -18,7 +23,7 @@ undashed word = if starts_with nat_eq word (codes "--") then Some (drop 2 word) 
 -- the texts before and after the first `=`, where there is one
 abbrev pub around_equals : List ℕ → Option (List ℕ × List ℕ)
 around_equals text =
-    if nat_lt (position_or_len (λ b. b == 61) text) (length text) then Some (before_first (λ b. b == 61) text, after_first (λ b. b == 61) text)
+    if list_any (λ b. b == 61) text then Some (before_first (λ b. b == 61) text, after_first (λ b. b == 61) text)
     else None
 
 -- the option that one word gives
@@ -50,16 +55,23 @@ is_given name options = list_any (λ option. bytes_eq option.0 name) options
 abbrev pub value_of : List ℕ → List Given → Option (List ℕ)
 value_of name options = option_map (λ option. option.1) (find (λ option. bytes_eq option.0 name) options)
 
--- whether each option has a name that is taken, and none is given twice
-abbrev pub are_taken : (List ℕ → Bool) → List Given → Bool
-are_taken takes [] = true
-are_taken takes (option ∷ options) = takes option.0 && not (is_given option.0 options) && are_taken takes options
+-- whether one of the options has this name
+abbrev pub is_known : List Entry → List ℕ → Bool
+is_known entries name = list_any (λ entry. bytes_eq entry.name name) entries
 
--- whether words give options at all, and these are taken
-abbrev pub are_accepted : (List ℕ → Bool) → Option (List Given) → Bool
-are_accepted takes (Some options) = are_taken takes options
-are_accepted takes None = false
+-- whether each option has a name that is known, and none is given twice
+abbrev pub are_taken : List Entry → List Given → Bool
+are_taken entries [] = true
+are_taken entries (option ∷ options) =
+    is_known entries option.0 && not (is_given option.0 options) && are_taken entries options
 
--- the options that words give, where they give any
-abbrev pub options_in : List (List ℕ) → List Given
-options_in words = unwrap_or (given words) []
+-- whether an option that has to be given isn't
+abbrev pub lacks_one : List Entry → List Given → Bool
+lacks_one entries options = list_any (λ entry. entry.is_needed && not (is_given entry.name options)) entries
+
+-- the options that words give, where they are some of these, none of them twice, with all that have to
+-- be given
+abbrev pub accepted : List Entry → Option (List Given) → Option (List Given)
+accepted entries None = None
+accepted entries (Some options) =
+    if are_taken entries options && not (lacks_one entries options) then Some options else None

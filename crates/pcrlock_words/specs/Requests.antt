@@ -7,7 +7,7 @@ use Rattle.pcrlock_words.specs.declared.command.Command.TheVariants as commands
 use Rattle.pcrlock_words.specs.declared.request.Request.{Request}
 use Rattle.pcrlock_words.specs.declared.request.Request.TheVariants as requests
 use Rattle.pcrlock_words.specs.Options.{Given, value_of}
-use Rattle.pcrlock_words.specs.Values.{◌>>=◌, required, optional, defaulted, path_of, pcr_of, bank_of, key_of, hex_of, index_of}
+use Rattle.pcrlock_words.specs.Values.{◌>>=◌, required, optional, defaulted, path_of, pcr_of, bank_of, key_of, hex_of, index_of, all_banks, banks_of, folders_of, locality_of}
 use Rattle.pcrlock_words.specs.Commands.{command_named, options_for}
 
 -- the policy path in force: the script's inside a script, else that of --policy or its default
@@ -28,6 +28,12 @@ extended_bytes None (Some digits) = hex_of digits
 extended_bytes (Some text) (Some digits) = None
 extended_bytes None None = None
 
+-- the folders of components where no option gives them, the first on top (systemd.pcrlock(5))
+abbrev pub default_folders : List (List ℕ)
+default_folders =
+    codes "/etc/pcrlock.d" ∷ codes "/run/pcrlock.d" ∷ codes "/var/lib/pcrlock.d" ∷ codes "/usr/local/lib/pcrlock.d"
+    ∷ codes "/usr/lib/pcrlock.d" ∷ []
+
 -- the request of each command with these options
 abbrev pub script_request : List Given → Option Request
 script_request options = do
@@ -35,6 +41,17 @@ script_request options = do
   policy ← policy_in_force None options
   index ← defaulted index_of 0x01800100 (value_of (codes "index") options)
   Some (requests.Script file policy index)
+
+abbrev pub cel_request : List Given → Option Request
+cel_request options = do
+  firmware_log ← optional path_of (value_of (codes "firmware-log") options)
+  userspace_log ← optional path_of (value_of (codes "userspace-log") options)
+  Some (requests.Cel firmware_log userspace_log)
+
+abbrev pub list_components_request : List Given → Option Request
+list_components_request options = do
+  components ← defaulted folders_of default_folders (value_of (codes "components") options)
+  Some (requests.ListComponents components)
 
 abbrev pub enroll_request : Option (List ℕ) → List Given → Option Request
 enroll_request script_policy options = do
@@ -51,6 +68,14 @@ unseal_request script_policy options = do
   token ← token_beside policy options
   Some (requests.Unseal token policy)
 
+abbrev pub tpm_boot_request : List Given → Option Request
+tpm_boot_request options = do
+  firmware_log ← optional path_of (value_of (codes "firmware-log") options)
+  userspace_log ← optional path_of (value_of (codes "userspace-log") options)
+  locality ← optional locality_of (value_of (codes "locality") options)
+  banks ← defaulted banks_of all_banks (value_of (codes "banks") options)
+  Some (requests.TpmBoot firmware_log userspace_log locality banks)
+
 abbrev pub tpm_extend_request : List Given → Option Request
 tpm_extend_request options = do
   pcr ← required pcr_of (value_of (codes "pcr") options)
@@ -59,17 +84,25 @@ tpm_extend_request options = do
 
 abbrev pub command_request : Option (List ℕ) → Command → List Given → Option Request
 command_request script_policy commands.Script options = script_request options
+command_request script_policy commands.Cel options = cel_request options
+command_request script_policy commands.ListComponents options = list_components_request options
 command_request script_policy commands.Enroll options = enroll_request script_policy options
 command_request script_policy commands.Unseal options = unseal_request script_policy options
+command_request script_policy commands.TpmBoot options = tpm_boot_request options
 command_request script_policy commands.TpmExtend options = tpm_extend_request options
 
--- the request of a command's name and the options behind it
+-- the request of a command and the words behind its name
+abbrev pub options_request : Option (List ℕ) → Command → List (List ℕ) → Option Request
+options_request script_policy command words = do
+  options ← options_for (is_some script_policy) command words
+  command_request script_policy command options
+
+-- the request of a command's name and the words behind it
 abbrev pub line_request : Option (List ℕ) → List (List ℕ) → Option Request
 line_request script_policy [] = None
 line_request script_policy (name ∷ words) = do
   command ← command_named (is_some script_policy) name
-  options ← options_for (is_some script_policy) command words
-  command_request script_policy command options
+  options_request script_policy command words
 
 -- The request that words spell. Inside a script, whose policy path is given, they are a command with
 -- its options; outside, the path of the state file stands before those.

@@ -1,10 +1,11 @@
 -- The lines that are printed for each answer and each command. Numbers are decimal, digests and handles
 -- hexadecimal in lower case.
-use Rattle.std.specs.Prelude.{ℕ, Bool, true, false, List, [], ◌∷◌, ◌++◌, codes}
+use Rattle.std.specs.Prelude.{ℕ, Bool, true, false, List, [], ◌∷◌, ◌++◌, codes, length, flat_map}
 use Rattle.std.specs.Fmt.{decimal}
 use Rattle.std.specs.Int.{to_be_bytes, w32}
 use Rattle.hex.specs.Hex.{encode_lower}
 use Rattle.hash_bank.specs.Hash.{name_in}
+use Rattle.component_tree.specs.PlainTree.{PlainComponent, PlainVariant}
 use Rattle.pcrlock_words.specs.declared.place.Place.{Place}
 use Rattle.pcrlock_words.specs.declared.place.Place.TheVariants.{At, Json, Records, BadName, Rule}
 use Rattle.pcrlock_words.specs.declared.answer.Answer.{Answer}
@@ -25,6 +26,23 @@ enrolled_text handle = codes "enrolled " ++ handle_text handle ++ line_end
 -- the key that was opened
 unfoldable pub key_text : List ℕ → List ℕ
 key_text key = codes "key " ++ encode_lower key ++ line_end
+
+-- how many records there were
+unfoldable pub records_text : ℕ → List ℕ
+records_text count = codes "records " ++ decimal count ++ line_end
+
+-- a variant of a component, with how many records it has
+abbrev pub variant_text : List ℕ → PlainVariant → List ℕ
+variant_text id variant =
+    id ++ codes " " ++ variant.name ++ codes " " ++ decimal (length variant.records) ++ line_end
+
+-- the variants of a component
+abbrev pub component_text : PlainComponent → List ℕ
+component_text component = flat_map (variant_text component.id) component.variants
+
+-- the variants of a tree's components
+unfoldable pub components_text : List PlainComponent → List ℕ
+components_text components = flat_map component_text components
 
 -- the status of a script's line
 unfoldable pub status_text : ℕ → List ℕ

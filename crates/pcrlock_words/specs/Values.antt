@@ -1,5 +1,6 @@
 -- How the values of options are read.
-use Rattle.std.specs.Prelude.{ℕ, Bool, ◌==◌, ◌&&◌, ◌||◌, not, nat_le, slice_index, if◌then◌else◌, List, [], ◌∷◌, length, find, Option, Some, None, option_map}
+use Rattle.std.specs.Prelude.{ℕ, Bool, true, false, ◌==◌, ◌&&◌, ◌||◌, not, nat_le, slice_index, if◌then◌else◌, List, [], ◌∷◌, length, find, Option, Some, None, option_map}
+use Rattle.std.specs.List.{list_any, slice_split}
 use Rattle.std.specs.Result.{result_ok}
 use Rattle.std.specs.Str.{bytes_eq}
 use Rattle.std.specs.Str.Parse.{digits_value}
@@ -8,6 +9,8 @@ use Rattle.std.specs.Int.{from_be_bytes, w32}
 use Rattle.hex.specs.Hex.{decode_of, decode_sized}
 use Rattle.hash_bank.specs.declared.bank.Bank.{Bank}
 use Rattle.hash_bank.specs.declared.bank.Bank.TheVariants.{Sha1, Sha256, Sha384, Sha512}
+use Rattle.hash_bank.specs.declared.banks.Banks.{Banks}
+use Rattle.hash_bank.specs.Banks.{has_bank}
 use Rattle.hash_bank.specs.Hash.{name_in}
 
 -- the second reading, of what the first gives
@@ -52,6 +55,47 @@ pcr_of value = number_up_to 23 value
 -- the bank of this name
 abbrev pub bank_of : List ℕ → Option Bank
 bank_of value = find (λ bank. bytes_eq (name_in bank) value) (Sha1 ∷ Sha256 ∷ Sha384 ∷ Sha512 ∷ [])
+
+-- the parts of a list, which commas part
+abbrev pub parts_of : List ℕ → List (List ℕ)
+parts_of value = slice_split (λ byte. byte == 44) value
+
+-- at most 16 folders, each a path
+abbrev pub folders_of : List ℕ → Option (List (List ℕ))
+folders_of value =
+    let folders = parts_of value in
+    if nat_le (length folders) 16 && not (list_any (λ folder. length folder == 0) folders) then Some folders else None
+
+-- no bank, and all of them
+abbrev pub no_bank : Banks
+no_bank = record { sha1 = false; sha256 = false; sha384 = false; sha512 = false }
+
+abbrev pub all_banks : Banks
+all_banks = record { sha1 = true; sha256 = true; sha384 = true; sha512 = true }
+
+-- the banks with one more
+abbrev pub with_bank : Bank → Banks → Banks
+with_bank Sha1 banks = record banks { sha1 = true }
+with_bank Sha256 banks = record banks { sha256 = true }
+with_bank Sha384 banks = record banks { sha384 = true }
+with_bank Sha512 banks = record banks { sha512 = true }
+
+-- the banks with those of further names, none of which is there yet
+abbrev pub with_banks : Banks → List (List ℕ) → Option Banks
+with_banks banks [] = Some banks
+with_banks banks (name ∷ names) = do
+  bank ← bank_of name
+  if has_bank banks bank then None else with_banks (with_bank bank banks) names
+
+-- the banks of these names, none of them twice
+abbrev pub banks_of : List ℕ → Option Banks
+banks_of value = with_banks no_bank (parts_of value)
+
+-- a locality at which a TPM is started (TCG PC Client Platform Firmware Profile, StartupLocality)
+abbrev pub locality_of : List ℕ → Option ℕ
+locality_of value = do
+  locality ← number_up_to 4 value
+  if locality == 0 || locality == 3 || locality == 4 then Some locality else None
 
 -- the bytes of pairs of hexadecimal digits of either case, between `low` and `high` digits in all
 abbrev pub bytes_between : ℕ → ℕ → List ℕ → Option (List ℕ)

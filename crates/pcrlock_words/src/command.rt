@@ -1,46 +1,163 @@
+ghost use Rattle.std.specs.Prelude.{◌≡◌, IfOk, map, false};
+ghost use Rattle.clap.specs.Words.{app_of, rule_of};
+ghost use Rattle.pcrlock_words.specs.Parser.{entry_of, parser_for, rule_for};
+ghost use Rattle.pcrlock_words.specs.Commands.{command_named, is_named, may_stand, name_of, options_of, stands, table};
+
+use Entry::{Free, Needed};
+use clap::Arg;
+use std::alloc::{AllocError, Global};
+
 /// A command of the program, without its options.
 #[derive(Clone, Copy, Debug, PartialEq, Eq)]
 pub(crate) enum Command {
     Script,
+    Cel,
+    ListComponents,
     Enroll,
     Unseal,
+    TpmBoot,
     TpmExtend,
 }
 
-impl Command {
-    ghost use Rattle.std.specs.Prelude.{◌≡◌};
-    ghost use Rattle.pcrlock_words.specs.Commands.{command_named, takes};
+// The name of an option, which has to be given or may be left out. Each option has a value.
+#[derive(Clone, Copy)]
+enum Entry {
+    Needed(&'static str),
+    Free(&'static str),
+}
 
-    // The command of a name; inside a script there is no command `script`.
-    pub(crate) fn from_name(within: bool, name: &str) -> Option<Command>
-        ensures { result ≡ command_named within name.now }
+static SCRIPT: [Entry; 3] = [Needed("file"), Free("policy"), Free("index")];
+
+static CEL: [Entry; 2] = [Free("firmware-log"), Free("userspace-log")];
+
+static LIST_COMPONENTS: [Entry; 1] = [Free("components")];
+
+static ENROLL: [Entry; 5] = [
+    Needed("token"),
+    Free("policy"),
+    Free("key"),
+    Free("literal"),
+    Free("bank"),
+];
+
+static UNSEAL: [Entry; 2] = [Needed("token"), Free("policy")];
+
+static TPM_BOOT: [Entry; 4] = [
+    Free("firmware-log"),
+    Free("userspace-log"),
+    Free("locality"),
+    Free("banks"),
+];
+
+static TPM_EXTEND: [Entry; 3] = [Needed("pcr"), Free("text"), Free("hex")];
+
+impl Entry {
+    // Whether the option stands with its command, inside a script or outside. Inside there are none of
+    // those that the command `script` gives for each of its lines.
+    fn stands(self, within: bool) -> bool
+        ensures { result ≡ stands within (entry_of self) }
     {
-        match name {
-            "script" => (!within).then_some(Command::Script),
-            "enroll" => Some(Command::Enroll),
-            "unseal" => Some(Command::Unseal),
-            "tpm-extend" => Some(Command::TpmExtend),
-            _ => None,
+        let name = match self {
+            Needed(name) | Free(name) => name,
+        };
+        !within || (name != "policy" && name != "index")
+    }
+
+    // The argument by which the parser knows the option.
+    fn arg<'a>(self, alloc: Global) -> Arg<'a>
+        ensures rule { rule_of result ≡ rule_for (entry_of self) }
+        ensures local { result.global ≡ false }
+    {
+        match self {
+            Needed(name) => Arg::new(alloc, name).long(name).required(true),
+            Free(name) => Arg::new(alloc, name).long(name),
+        }
+    }
+}
+
+impl Command {
+    // Every command.
+    const ALL: [Command; 7] = [
+        Command::Script,
+        Command::Cel,
+        Command::ListComponents,
+        Command::Enroll,
+        Command::Unseal,
+        Command::TpmBoot,
+        Command::TpmExtend,
+    ];
+
+    // The word that names the command.
+    fn name(self) -> &'static str
+        ensures { result.now ≡ name_of self }
+    {
+        match self {
+            Command::Script => "script",
+            Command::Cel => "cel",
+            Command::ListComponents => "list-components",
+            Command::Enroll => "enroll",
+            Command::Unseal => "unseal",
+            Command::TpmBoot => "tpm-boot",
+            Command::TpmExtend => "tpm-extend",
         }
     }
 
-    // Whether the command has an option of this name. Inside a script no command has `--policy`.
-    pub(crate) fn takes(self, within: bool, option: &str) -> bool
-        ensures { result ≡ takes within self option.now }
+    // Whether the command may stand there: inside a script all but `script`, and outside each.
+    fn may_stand(self, within: bool) -> bool
+        ensures { result ≡ may_stand within self }
     {
         match self {
-            Command::Script => matches!(option, "file" | "policy" | "index"),
-            Command::Enroll => match option {
-                "token" | "key" | "literal" | "bank" => true,
-                "policy" => !within,
-                _ => false,
-            },
-            Command::Unseal => match option {
-                "token" => true,
-                "policy" => !within,
-                _ => false,
-            },
-            Command::TpmExtend => matches!(option, "pcr" | "text" | "hex"),
+            Command::Script => !within,
+            _ => true,
         }
+    }
+
+    // Whether the name is the command's, and the command may stand there.
+    fn is_named(self, within: bool, name: &str) -> bool
+        ensures { result ≡ is_named within name.now self }
+    {
+        self.may_stand(within) && self.name() == name
+    }
+
+    // The command of a name, inside a script or outside.
+    pub(crate) fn from_name(within: bool, name: &str) -> Option<Command>
+        ensures { result ≡ command_named within name.now }
+    {
+        let mut commands = Command::ALL.iter().copied();
+        commands.find(|command| command.is_named(within, name))
+    }
+
+    // The table of the command's options.
+    fn options(self) -> &'static [Entry]
+        ensures { map entry_of result.now ≡ table self }
+    {
+        match self {
+            Command::Script => SCRIPT.as_slice(),
+            Command::Cel => CEL.as_slice(),
+            Command::ListComponents => LIST_COMPONENTS.as_slice(),
+            Command::Enroll => ENROLL.as_slice(),
+            Command::Unseal => UNSEAL.as_slice(),
+            Command::TpmBoot => TPM_BOOT.as_slice(),
+            Command::TpmExtend => TPM_EXTEND.as_slice(),
+        }
+    }
+
+    // The parser of the command's options, inside a script or outside. It has no flag for help.
+    pub(crate) fn parser<'a>(
+        self,
+        alloc: Global,
+        within: bool,
+    ) -> Result<clap::Command<'a>, AllocError>
+        ensures { IfOk result (λ parser. app_of parser ≡ parser_for (options_of within self)) }
+    {
+        let mut parser = clap::Command::new(alloc, "pcrlock")
+            .no_binary_name(true)
+            .disable_help_flag(true);
+        for entry in self.options() {
+            if entry.stands(within) {
+                parser = parser.arg(entry.arg(alloc))?;
+            }
+        }
+        Ok(parser)
     }
 }

@@ -8,7 +8,9 @@
 
 mod answer;
 mod command;
+mod components;
 mod error;
+mod fields;
 mod lines;
 mod options;
 mod place;
@@ -20,9 +22,10 @@ mod texts;
 mod values;
 
 pub use answer::Answer;
+pub use components::components_text;
 pub use error::WordsError;
 pub use lines::split_line;
 pub use place::Place;
 pub use read::read_words;
 pub use request::Request;
-pub use texts::{answer_line, enrolled_line, key_line, status_line};
+pub use texts::{answer_line, enrolled_line, key_line, records_line, status_line};

@@ -1,23 +1,17 @@
 ghost use Rattle.std.specs.Prelude.{option_copied};
-ghost use Rattle.hash_bank.specs.declared.bank.Bank.TheVariants.{Sha256};
 ghost use Rattle.pcrlock_words.specs.Readings.{Gives};
-ghost use Rattle.pcrlock_words.specs.Requests.{command_request, enroll_request, extended_bytes, line_request, policy_in_force, request_of, script_request, token_beside, tpm_extend_request, unseal_request};
-ghost use Rattle.pcrlock_words.specs.Values.{bank_of, defaulted, index_of, key_of, optional, path_of, pcr_of, required};
+ghost use Rattle.pcrlock_words.specs.Requests.{cel_request, command_request, enroll_request, line_request, list_components_request, options_request, request_of, script_request, tpm_boot_request, tpm_extend_request, unseal_request};
 
 use crate::command::Command;
 use crate::error::WordsError;
-use crate::options::Options;
+use crate::fields::{
+    bank_value, banks_value, extended, folders, index_value, key_value, locality_value,
+    optional_path, pcr_value, policy_path, required_path, token_path,
+};
+use crate::options::{Options, texts};
 use crate::request::Request;
-use crate::values::{read_bank, read_hex, read_index, read_key, read_path, read_pcr};
-use hash_bank::Bank;
-use pl_base::{List, Name, Small};
+use pl_base::Name;
 use std::alloc::Global;
-
-// The policy file's path where no option gives it.
-const DEFAULT_POLICY: &str = "pcrlock.policy";
-
-// The NV index where no option gives it.
-const DEFAULT_INDEX: u32 = 0x0180_0100;
 
 /// Reads a list of words as a request.
 ///
@@ -29,8 +23,11 @@ const DEFAULT_INDEX: u32 = 0x0180_0100;
 /// | Command | Options |
 /// |---|---|
 /// | `script` | `--file`, and at will `--policy`, `--index` |
+/// | `cel` | at will `--firmware-log`, `--userspace-log` |
+/// | `list-components` | at will `--components` |
 /// | `enroll` | `--token`, `--literal`, and at will `--policy`, `--key`, `--bank` |
 /// | `unseal` | `--token`, and at will `--policy` |
+/// | `tpm-boot` | at will `--firmware-log`, `--userspace-log`, `--locality`, `--banks` |
 /// | `tpm-extend` | `--pcr`, and one of `--text` and `--hex` |
 ///
 /// `BadWords` comes exactly where the words are none of these, a value is none of its option's, a token
@@ -53,7 +50,7 @@ pub fn read_words(
     }
 }
 
-// The request of a command's name and the options behind it.
+// The request of a command's name and the words behind it.
 fn read_line(
     alloc: Global,
     words: &[Name],
@@ -64,13 +61,23 @@ fn read_line(
     let Some((name, words)) = words.split_first() else {
         return Err(WordsError::BadWords);
     };
-    let within = script_policy.is_some();
-    let Some(command) = Command::from_name(within, name.text()) else {
+    let Some(command) = Command::from_name(script_policy.is_some(), name.text()) else {
         return Err(WordsError::BadWords);
     };
-    let Some(options) = Options::read(command, within, words) else {
-        return Err(WordsError::BadWords);
-    };
+    read_options(alloc, command, words, script_policy)
+}
+
+// The request of a command and the words behind its name.
+fn read_options(
+    alloc: Global,
+    command: Command,
+    words: &[Name],
+    script_policy: Option<&Name>,
+) -> Result<Request, WordsError>
+    ensures { Gives result (options_request (option_copied script_policy.entry) command words.now) }
+{
+    let texts = texts(alloc, words)?;
+    let options = Options::read(alloc, command, script_policy.is_some(), texts.as_slice())?;
     read_command(alloc, command, &options, script_policy)
 }
 
@@ -85,8 +92,11 @@ fn read_command(
 {
     match command {
         Command::Script => script(alloc, options),
+        Command::Cel => cel(alloc, options),
+        Command::ListComponents => list_components(alloc, options),
         Command::Enroll => enroll(alloc, options, script_policy),
         Command::Unseal => unseal(alloc, options, script_policy),
+        Command::TpmBoot => tpm_boot(alloc, options),
         Command::TpmExtend => tpm_extend(alloc, options),
     }
 }
@@ -103,6 +113,26 @@ fn script(alloc: Global, options: &Options<'_>) -> Result<Request, WordsError>
         policy,
         index,
     })
+}
+
+// The request of `cel` with these options.
+fn cel(alloc: Global, options: &Options<'_>) -> Result<Request, WordsError>
+    ensures { Gives result (cel_request options.now) }
+{
+    let firmware_log = optional_path(alloc, options.value("firmware-log"))?;
+    let userspace_log = optional_path(alloc, options.value("userspace-log"))?;
+    Ok(Request::Cel {
+        firmware_log,
+        userspace_log,
+    })
+}
+
+// The request of `list-components` with these options.
+fn list_components(alloc: Global, options: &Options<'_>) -> Result<Request, WordsError>
+    ensures { Gives result (list_components_request options.now) }
+{
+    let components = folders(alloc, options.value("components"))?;
+    Ok(Request::ListComponents { components })
 }
 
 // The request of `enroll` with these options.
@@ -140,6 +170,22 @@ fn unseal(
     Ok(Request::Unseal { token, policy })
 }
 
+// The request of `tpm-boot` with these options.
+fn tpm_boot(alloc: Global, options: &Options<'_>) -> Result<Request, WordsError>
+    ensures { Gives result (tpm_boot_request options.now) }
+{
+    let firmware_log = optional_path(alloc, options.value("firmware-log"))?;
+    let userspace_log = optional_path(alloc, options.value("userspace-log"))?;
+    let locality = locality_value(options.value("locality"))?;
+    let banks = banks_value(alloc, options.value("banks"))?;
+    Ok(Request::TpmBoot {
+        firmware_log,
+        userspace_log,
+        locality,
+        banks,
+    })
+}
+
 // The request of `tpm-extend` with these options.
 fn tpm_extend(alloc: Global, options: &Options<'_>) -> Result<Request, WordsError>
     ensures { Gives result (tpm_extend_request options.now) }
@@ -147,93 +193,4 @@ fn tpm_extend(alloc: Global, options: &Options<'_>) -> Result<Request, WordsErro
     let pcr = pcr_value(options.value("pcr"))?;
     let bytes = extended(alloc, options.value("text"), options.value("hex"))?;
     Ok(Request::TpmExtend { pcr, bytes })
-}
-
-// A path that has to be given.
-fn required_path(alloc: Global, value: Option<&str>) -> Result<Name, WordsError>
-    ensures { Gives result (required path_of (option_copied value.entry)) }
-{
-    match value {
-        Some(value) => read_path(alloc, value),
-        None => Err(WordsError::BadWords),
-    }
-}
-
-// The policy path in force: the script's, or that of --policy, or its default.
-fn policy_path(
-    alloc: Global,
-    options: &Options<'_>,
-    script_policy: Option<&Name>,
-) -> Result<Name, WordsError>
-    ensures { Gives result (policy_in_force (option_copied script_policy.entry) options.now) }
-{
-    if let Some(policy) = script_policy {
-        return Ok(policy.copy(alloc)?);
-    }
-    match options.value("policy") {
-        Some(value) => read_path(alloc, value),
-        None => Ok(Name::from_text(alloc, DEFAULT_POLICY)?),
-    }
-}
-
-// The token's path, which is not the policy path in force.
-fn token_path(alloc: Global, options: &Options<'_>, policy: &Name) -> Result<Name, WordsError>
-    ensures { Gives result (token_beside policy.now options.now) }
-{
-    let token = required_path(alloc, options.value("token"))?;
-    if token.text() == policy.text() {
-        return Err(WordsError::BadWords);
-    }
-    Ok(token)
-}
-
-// The key, where one is given.
-fn key_value(alloc: Global, value: Option<&str>) -> Result<Option<Small>, WordsError>
-    ensures { Gives result (optional key_of (option_copied value.entry)) }
-{
-    match value {
-        Some(value) => Ok(Some(read_key(alloc, value)?)),
-        None => Ok(None),
-    }
-}
-
-// The number of a PCR, which has to be given.
-fn pcr_value(value: Option<&str>) -> Result<u8, WordsError>
-    ensures { Gives result (required pcr_of (option_copied value.entry)) }
-{
-    match value {
-        Some(value) => read_pcr(value).ok_or(WordsError::BadWords),
-        None => Err(WordsError::BadWords),
-    }
-}
-
-// The bank, or SHA-256.
-fn bank_value(value: Option<&str>) -> Result<Bank, WordsError>
-    ensures { Gives result (defaulted bank_of Sha256 (option_copied value.entry)) }
-{
-    match value {
-        Some(value) => read_bank(value).ok_or(WordsError::BadWords),
-        None => Ok(Bank::Sha256),
-    }
-}
-
-// The handle of the NV index, or its default.
-fn index_value(value: Option<&str>) -> Result<u32, WordsError>
-    ensures { Gives result (defaulted index_of DEFAULT_INDEX (option_copied value.entry)) }
-{
-    match value {
-        Some(value) => read_index(value).ok_or(WordsError::BadWords),
-        None => Ok(DEFAULT_INDEX),
-    }
-}
-
-// The bytes of --text or of --hex, of which exactly one is given.
-fn extended(alloc: Global, text: Option<&str>, digits: Option<&str>) -> Result<List<u8>, WordsError>
-    ensures { Gives result (extended_bytes (option_copied text.entry) (option_copied digits.entry)) }
-{
-    match (text, digits) {
-        (Some(text), None) => Ok(List::from_vec(text.as_bytes().to_vec(alloc)?)),
-        (None, Some(digits)) => read_hex(alloc, digits),
-        _ => Err(WordsError::BadWords),
-    }
 }

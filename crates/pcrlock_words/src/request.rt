@@ -1,4 +1,4 @@
-use hash_bank::Bank;
+use hash_bank::{Bank, Banks};
 use pl_base::{List, Name, Small};
 
 /// What a list of words asks for. Each field holds the value of the option of its name, or the option's
@@ -14,6 +14,16 @@ pub enum Request {
         policy: Name,
         index: u32,
     },
+    /// Prints the records of the firmware log and of the userspace log, each at the path given or else at
+    /// its default.
+    Cel {
+        firmware_log: Option<Name>,
+        userspace_log: Option<Name>,
+    },
+    /// Lists the components of the folders `components`, 1 to 16, the first on top.
+    ListComponents {
+        components: List<Name>,
+    },
     /// Seals `key`, 1 to 128 bytes, or a key that is drawn, and writes the token file `token`. With
     /// `literal` the object opens at the present value of that PCR, 0 to 23, in `bank`.
     Enroll {
@@ -27,6 +37,14 @@ pub enum Request {
     Unseal {
         token: Name,
         policy: Name,
+    },
+    /// Starts the TPM with `banks` and extends its PCRs by the records of both logs. The locality, 0, 3 or
+    /// 4, is that of the firmware log where none is given.
+    TpmBoot {
+        firmware_log: Option<Name>,
+        userspace_log: Option<Name>,
+        locality: Option<u8>,
+        banks: Banks,
     },
     /// Extends the PCR, 0 to 23, in each bank with that bank's hash of `bytes`.
     TpmExtend {

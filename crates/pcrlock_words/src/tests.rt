@@ -1,10 +1,11 @@
 //! What no clause says: printed texts and spelled requests, each public call with ample memory.
 use crate::{
-    Answer, Place, Request, WordsError, answer_line, enrolled_line, key_line, read_words,
-    split_line, status_line,
+    Answer, Place, Request, WordsError, answer_line, components_text, enrolled_line, key_line,
+    read_words, records_line, split_line, status_line,
 };
+use component_tree::load_tree;
 use hash_bank::{Bank, Digest};
-use pl_base::{List, Memory, Name, Small};
+use pl_base::{List, MemFiles, Memory, Name, Small};
 use std::alloc::Global;
 use std::process::Abort;
 use std::str;
@@ -24,7 +25,7 @@ const LINES: [(&str, &str); 9] = [
 ];
 
 // Words outside a script, parted by bars, and the request that they spell.
-const SPELLED: [(&str, &str); 19] = [
+const SPELLED: [(&str, &str); 32] = [
     ("state|script|--file|f", "script f pcrlock.policy 01800100"),
     (
         "state|script|--index=01FFffff|--policy|p|--file|f",
@@ -34,6 +35,40 @@ const SPELLED: [(&str, &str); 19] = [
         "state|script|--file=pcrlock.policy|--index|01000000",
         "script pcrlock.policy pcrlock.policy 01000000",
     ),
+    ("state|cel", "cel ? ?"),
+    ("state|cel|--userspace-log|u", "cel ? u"),
+    ("state|cel|--userspace-log=u|--firmware-log=f", "cel f u"),
+    (
+        "state|list-components",
+        "list-components /etc/pcrlock.d /run/pcrlock.d /var/lib/pcrlock.d /usr/local/lib/pcrlock.d /usr/lib/pcrlock.d",
+    ),
+    ("state|list-components|--components|a", "list-components a"),
+    (
+        "state|list-components|--components=b,/a b,b",
+        "list-components b /a b b",
+    ),
+    (
+        "state|tpm-boot",
+        "tpm-boot ? ? None sha1 sha256 sha384 sha512",
+    ),
+    (
+        "state|tpm-boot|--banks|sha256|--locality|0",
+        "tpm-boot ? ? Some(0) sha256",
+    ),
+    (
+        "state|tpm-boot|--locality=3|--banks=sha512,sha1|--firmware-log|f",
+        "tpm-boot f ? Some(3) sha1 sha512",
+    ),
+    (
+        "state|tpm-boot|--userspace-log|u|--locality|4|--banks|sha384,sha512,sha256,sha1|--firmware-log=f",
+        "tpm-boot f u Some(4) sha1 sha256 sha384 sha512",
+    ),
+    (
+        "state|tpm-extend|--text=--hex=|--pcr=3",
+        "tpm-extend 3 2d2d6865783d",
+    ),
+    ("--token|tpm-extend|--hex|AbCd|--pcr=3", "tpm-extend 3 abcd"),
+    ("state|tpm-extend|--hex=|--pcr=3", "tpm-extend 3 "),
     (
         "state|enroll|--token|t|--literal|11|--key|00fF",
         "enroll t pcrlock.policy 00ff 11 Sha256",
@@ -83,7 +118,7 @@ const SPELLED: [(&str, &str); 19] = [
 ];
 
 // Words that are outside the set, outside a script.
-const REFUSED: [&str; 65] = [
+const REFUSED: [&str; 100] = [
     "",
     "state",
     "state|",
@@ -96,6 +131,41 @@ const REFUSED: [&str; 65] = [
     "state|--help",
     "state|-h",
     "state|unseal|--help",
+    "state|unseal|--token|t|--help",
+    "state|unseal|--token|t|-h",
+    "state|unseal|--token|t|-V",
+    "state|unseal|-V",
+    "state|help|unseal",
+    "state|-V",
+    "state|version",
+    "state|cel|-",
+    "state|cel|--",
+    "state|cel|--=f",
+    "state|cel|=f",
+    "state|cel|f",
+    "state|cel|--firmware-log",
+    "state|cel|--firmware-log|",
+    "state|cel|--firmware-log=",
+    "state|cel|--firmware-log|-",
+    "state|cel|--firmware-log|--",
+    "state|cel|--firmware-log|f|--firmware-log|f",
+    "state|cel|--firmware|f",
+    "state|cel|--bank|sha256",
+    "state|list-components|--components|",
+    "state|list-components|--components|a,",
+    "state|list-components|--components|,a",
+    "state|list-components|--components|a,,b",
+    "state|list-components|--components|a|b",
+    "state|list-components|--components|a|--components|b",
+    "state|tpm-boot|--locality|1",
+    "state|tpm-boot|--locality|5",
+    "state|tpm-boot|--locality|03",
+    "state|tpm-boot|--locality|+3",
+    "state|tpm-boot|--banks|",
+    "state|tpm-boot|--banks|sha256,sha256",
+    "state|tpm-boot|--banks|sha1,sha256,sha1",
+    "state|tpm-boot|--banks|sha1,",
+    "state|tpm-boot|--banks|sha224",
     "state|unseal|--version",
     "state|unseal",
     "state|unseal|--token",
@@ -153,7 +223,7 @@ const REFUSED: [&str; 65] = [
 
 // The same of words inside a script whose policy path is `p`; no request stands for words that are
 // outside the set there.
-const INSIDE: [(&str, Option<&str>); 11] = [
+const INSIDE: [(&str, Option<&str>); 15] = [
     ("unseal|--token|t", Some("unseal t p")),
     (
         "unseal|--token|pcrlock.policy",
@@ -167,6 +237,10 @@ const INSIDE: [(&str, Option<&str>); 11] = [
         "tpm-extend|--pcr|11|--text|abc",
         Some("tpm-extend 11 616263"),
     ),
+    ("cel|--firmware-log|p", Some("cel p ?")),
+    ("list-components|--components|p", Some("list-components p")),
+    ("tpm-boot|--banks|sha1", Some("tpm-boot ? ? None sha1")),
+    ("cel|--policy|q", None),
     ("unseal|--token|p", None),
     ("enroll|--token|p|--literal|11", None),
     ("unseal|--token|t|--policy|p", None),
@@ -183,6 +257,14 @@ fn words(alloc: Global, text: &str) -> Result<List<Name>, Memory> {
         words.push(Name::from_text(alloc, word)?)?;
     }
     Ok(words)
+}
+
+// A path that may be left out.
+fn shown(path: &Option<Name>) -> &str {
+    match path {
+        Some(path) => path.text(),
+        None => "?",
+    }
 }
 
 // A request as a text, in the order of its fields.
@@ -210,6 +292,37 @@ fn spelled(alloc: Global, request: &Request) -> Result<String, Fail> {
             let (token, policy) = (token.text(), policy.text());
             let pcr = literal.ok_or("no literal")?;
             Ok(format!(in alloc; "enroll {token} {policy} {key} {pcr} {bank:?}")?)
+        }
+        Request::Cel {
+            firmware_log,
+            userspace_log,
+        } => {
+            let (firmware, userspace) = (shown(firmware_log), shown(userspace_log));
+            Ok(format!(in alloc; "cel {firmware} {userspace}")?)
+        }
+        Request::ListComponents { components } => {
+            let mut text = String::from_str(alloc, "list-components")?;
+            for folder in components.as_slice() {
+                text.push(' ')?;
+                text.push_str(folder.text())?;
+            }
+            Ok(text)
+        }
+        Request::TpmBoot {
+            firmware_log,
+            userspace_log,
+            locality,
+            banks,
+        } => {
+            let (firmware, userspace) = (shown(firmware_log), shown(userspace_log));
+            let mut text = format!(in alloc; "tpm-boot {firmware} {userspace} {locality:?}")?;
+            for bank in Bank::ALL.iter() {
+                if banks.has(*bank) {
+                    text.push(' ')?;
+                    text.push_str(bank.name())?;
+                }
+            }
+            Ok(text)
         }
         Request::Unseal { token, policy } => {
             let (token, policy) = (token.text(), policy.text());
@@ -279,11 +392,13 @@ fn words_inside_a_script(rt: HostRuntime) -> Result<(), Fail> {
 }
 
 // Keys and bytes of this many digits, and whether they are taken as a key, as bytes to extend by.
-const DIGITS: [(usize, bool, bool); 5] = [
+const DIGITS: [(usize, bool, bool); 7] = [
     (0, false, true),
+    (1, false, false),
     (2, true, true),
     (255, false, false),
     (256, true, true),
+    (257, false, false),
     (258, false, false),
 ];
 
@@ -307,6 +422,42 @@ fn digits_up_to_a_limit(rt: HostRuntime) -> Result<(), Fail> {
             *bytes
         );
     }
+    Ok(())
+}
+
+// Whether so many folders are taken.
+fn takes_folders(alloc: Global, count: u32) -> Result<bool, Memory> {
+    let mut text = String::from_str(alloc, "s|list-components|--components=f")?;
+    for _ in 1..count {
+        text.push_str(",f")?;
+    }
+    let words = words(alloc, text.as_str())?;
+    Ok(read_words(alloc, words.as_slice(), None).is_ok())
+}
+
+#[test]
+fn folders_up_to_a_limit(rt: HostRuntime) -> Result<(), Fail> {
+    assert!(rt; takes_folders(rt.alloc(), 1)?);
+    assert!(rt; takes_folders(rt.alloc(), 16)?);
+    assert!(rt; !takes_folders(rt.alloc(), 17)?);
+    Ok(())
+}
+
+#[test]
+fn components_are_listed(rt: HostRuntime) -> Result<(), Fail> {
+    let alloc = rt.alloc();
+    let record = b"[{\"pcr\":11,\"digests\":[]}]";
+    let mut files = MemFiles::new(alloc, List::new(alloc));
+    files.put("e/300-x.pcrlock", b"")?;
+    files.put("u/300-x.pcrlock", record)?;
+    files.put("u/400-y.pcrlock", record)?;
+    files.put("e/400-y.pcrlock.d/b.pcrlock", record)?;
+    let folders = words(alloc, "e|u")?;
+    let tree = load_tree(alloc, &mut files, folders.as_slice()).or(Err("no tree"))?;
+    let text = components_text(alloc, &tree)?;
+    assert_eq!(rt; str::from_utf8(text.as_slice())?, "400-y - 1\n400-y b 1\n");
+    let empty = load_tree(alloc, &mut files, &[]).or(Err("no tree"))?;
+    assert!(rt; components_text(alloc, &empty)?.is_empty());
     Ok(())
 }
 
@@ -434,6 +585,14 @@ fn commands_print_lines(rt: HostRuntime) -> Result<(), Fail> {
     assert_eq!(rt;
         enrolled_line(rt.alloc(), 0xabc)?.as_slice(),
         b"enrolled 00000abc\n".as_slice()
+    );
+    assert_eq!(rt;
+        records_line(rt.alloc(), 0)?.as_slice(),
+        b"records 0\n".as_slice()
+    );
+    assert_eq!(rt;
+        records_line(rt.alloc(), 20480)?.as_slice(),
+        b"records 20480\n".as_slice()
     );
     assert_eq!(rt; status_line(rt.alloc(), 0)?.as_slice(), b"= 0\n".as_slice());
     assert_eq!(rt;

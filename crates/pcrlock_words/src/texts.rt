@@ -1,5 +1,5 @@
 ghost use Rattle.std.specs.Prelude.{◌≡◌, IfOk, string_bytes};
-ghost use Rattle.pcrlock_words.specs.Texts.{answer_text, enrolled_text, handle_text, key_text, status_text};
+ghost use Rattle.pcrlock_words.specs.Texts.{answer_text, enrolled_text, handle_text, key_text, records_text, status_text};
 
 use crate::answer::Answer;
 use pl_base::{Memory, Small};
@@ -21,6 +21,14 @@ pub fn key_line(alloc: Global, key: &Small) -> Result<Vec<u8>, Memory>
 {
     let key = hex::encode(alloc, key.as_slice())?;
     Ok(format!(in alloc; "key {key}\n")?.into_bytes())
+}
+
+/// The line that says how many records `tpm-boot` extended the PCRs by.
+#[tactic(auto, unfolding(crate::specs::Texts::records_text))]
+pub fn records_line(alloc: Global, count: u32) -> Result<Vec<u8>, Memory>
+    ensures { IfOk result (λ line. line.items ≡ records_text count) }
+{
+    Ok(format!(in alloc; "records {count}\n")?.into_bytes())
 }
 
 /// The mark that follows each line of a script, with the line's status.

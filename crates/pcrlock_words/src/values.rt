@@ -1,12 +1,24 @@
-ghost use Rattle.std.specs.Prelude.{◌≡◌};
+ghost use Rattle.std.specs.Prelude.{◌≡◌, ◌==◌, ◌&&◌, IfOk, length, map, nat_le, not};
+ghost use Rattle.std.specs.List.{list_any};
 ghost use Rattle.pcrlock_words.specs.Readings.{Gives};
-ghost use Rattle.pcrlock_words.specs.Values.{bank_of, bytes_between, hex_of, index_of, is_plain, key_of, number_up_to, nv_handle, path_of, pcr_of};
+ghost use Rattle.pcrlock_words.specs.Values.{bank_of, banks_of, bytes_between, folders_of, hex_of, index_of, is_plain, key_of, locality_of, no_bank, number_up_to, nv_handle, parts_of, path_of, pcr_of, with_bank, with_banks};
 
 use crate::error::WordsError;
-use hash_bank::Bank;
+use hash_bank::{Bank, Banks};
 use hex::{FromHex, FromHexError};
-use pl_base::{List, Name, Small};
-use std::alloc::Global;
+use pl_base::{List, Memory, Name, Small};
+use std::alloc::{AllocError, Global};
+
+// How many folders may be given.
+const FOLDER_LIMIT: usize = 16;
+
+// No bank.
+const NO_BANK: Banks = Banks {
+    sha1: false,
+    sha256: false,
+    sha384: false,
+    sha512: false,
+};
 
 // The greatest number of a PCR.
 const LAST_PCR: u32 = 23;
@@ -45,6 +57,104 @@ pub(crate) fn read_bank(value: &str) -> Option<Bank>
     ensures { result ≡ bank_of value.now }
 {
     Bank::ALL.iter().copied().find(|bank| bank.name() == value)
+}
+
+// The parts of a list, which commas part.
+fn parts(alloc: Global, value: &str) -> Result<Vec<&str>, AllocError>
+    ensures { IfOk result (λ parts. map (λ part. part.now) parts.items ≡ parts_of value.now) }
+{
+    value.split(',').collect(alloc)
+}
+
+/// The folders of a list, at most 16 of them, each of at least one byte.
+pub(crate) fn read_folders(alloc: Global, value: &str) -> Result<List<Name>, WordsError>
+    ensures { Gives result (folders_of value.now) }
+{
+    let parts = parts(alloc, value)?;
+    if !are_folders(parts.as_slice()) {
+        return Err(WordsError::BadWords);
+    }
+    Ok(names(alloc, parts.as_slice())?)
+}
+
+// Whether these are few enough, and each is a path.
+fn are_folders(parts: &[&str]) -> bool
+    ensures { result ≡ (nat_le (length parts.now) 16 && not (list_any (λ part. length part.now == 0) parts.now)) }
+{
+    parts.len() <= FOLDER_LIMIT && !has_empty(parts)
+}
+
+// Whether one of these is empty.
+fn has_empty(parts: &[&str]) -> bool
+    ensures { result ≡ list_any (λ part. length part.now == 0) parts.now }
+{
+    parts.iter().any(|part| part.is_empty())
+}
+
+/// These texts as names.
+pub(crate) fn names(alloc: Global, texts: &[&str]) -> Result<List<Name>, Memory>
+    ensures { IfOk result (λ names. names ≡ map (λ text. text.now) texts.now) }
+{
+    let mut names = List::new(alloc);
+    for text in texts {
+        names.push(Name::from_text(alloc, text)?)?;
+    }
+    Ok(names)
+}
+
+// The banks with one more.
+fn with_bank(banks: Banks, bank: Bank) -> Banks
+    ensures { result ≡ with_bank bank banks }
+{
+    match bank {
+        Bank::Sha1 => Banks {
+            sha1: true,
+            ..banks
+        },
+        Bank::Sha256 => Banks {
+            sha256: true,
+            ..banks
+        },
+        Bank::Sha384 => Banks {
+            sha384: true,
+            ..banks
+        },
+        Bank::Sha512 => Banks {
+            sha512: true,
+            ..banks
+        },
+    }
+}
+
+// The banks of these names, none of them twice.
+fn banks_named(names: &[&str]) -> Option<Banks>
+    ensures { result ≡ with_banks no_bank (map (λ name. name.now) names.now) }
+{
+    let mut banks = NO_BANK;
+    for name in names {
+        let bank = read_bank(name)?;
+        if banks.has(bank) {
+            return None;
+        }
+        banks = with_bank(banks, bank);
+    }
+    Some(banks)
+}
+
+/// The banks of a list of names, none of them twice.
+pub(crate) fn read_banks(alloc: Global, value: &str) -> Result<Banks, WordsError>
+    ensures { Gives result (banks_of value.now) }
+{
+    let names = parts(alloc, value)?;
+    banks_named(names.as_slice()).ok_or(WordsError::BadWords)
+}
+
+/// A locality at which a TPM is started.
+pub(crate) fn read_locality(value: &str) -> Option<u8>
+    ensures { result ≡ locality_of value.now }
+{
+    let locality = read_number(value, 4)?;
+    (locality == 0 || locality == 3 || locality == 4).then_some(locality as u8)
 }
 
 // A number as the handle of an NV index (TPM 2.0 Library Part 2, TPM_HT_NV_INDEX).
