@@ -1,5 +1,5 @@
 -- The two logs of a boot, and what they say together.
-use Rattle.std.specs.Prelude.{ℕ, ◌≤◌, List, [], ◌++◌, length, map, Option, None, Some, Result, Ok, IfSome}
+use Rattle.std.specs.Prelude.{◌≡◌, ◌⊎◌, ℕ, ◌≤◌, List, [], ◌++◌, length, map, Option, None, Some, Result, Ok, IfSome}
 use Rattle.pl_base.specs.FileMap.{FileMap}
 use Rattle.cel_record.specs.Spelled.{Spelled}
 use Rattle.tcg_log.specs.Allowed.{IsWritable}
@@ -45,6 +45,10 @@ rows_of logs = firmware_part logs.firmware ++ map user_row logs.user.records
 abbrev pub locality_in : Option FirmwareLog → ℕ
 locality_in None = 0
 locality_in (Some log) = locality_of log
+
+-- one of the localities that a machine may start at
+abbrev pub IsLocality : ℕ → Type 0
+IsLocality locality = (locality ≡ 0) ⊎ ((locality ≡ 3) ⊎ (locality ≡ 4))
 
 -- what every log that was read keeps
 pub record AreRead (logs : Logs) : Type 0 where

@@ -4,6 +4,7 @@ ghost use Rattle.pl_base.specs.Faults.{HasCause};
 ghost use Rattle.pl_base.specs.FileMap.{FileMap};
 ghost use Rattle.pcr_replay.specs.Row.{rows};
 ghost use Rattle.pcrlock_input.specs.Answering.{Answers};
+ghost use Rattle.pcrlock_input.specs.Logs.{AreRead, IsLocality, locality_in, logs_of, plain_logs, rows_of};
 
 use crate::error::InputError;
 use crate::firmware::read_firmware_log;
@@ -23,9 +24,17 @@ pub struct Logs {
     pub user: UserLog,
 }
 
-impl Logs {
-    ghost use Rattle.pcrlock_input.specs.Logs.{AreRead, plain_logs, rows_of, locality_in};
+/// The locality that the firmware announced, 0 where it has no log.
+fn announced(firmware: &Option<FirmwareLog>) -> u8
+    ensures { result ≡ locality_in firmware.now }
+{
+    match firmware {
+        Some(log) => tcg_log::locality(log),
+        None => 0,
+    }
+}
 
+impl Logs {
     /// What was extended: the firmware's records that are not of the type EV_NO_ACTION, in order, and
     /// then those of userspace. Together they are at most 20,480.
     pub fn combined(&self, alloc: Global) -> Result<List<LogRecord>, Memory>
@@ -38,16 +47,12 @@ impl Logs {
 
     /// The locality that the firmware announced, 0 where it didn't or has no log: 0, 3 or 4.
     pub fn locality(&self) -> u8
-        ensures { result ≡ locality_in self.now.firmware }
+        ensures told { result ≡ locality_in self.now.firmware }
+        ensures known { IsLocality result }
     {
-        match &self.firmware {
-            Some(log) => tcg_log::locality(log),
-            None => 0,
-        }
+        announced(&self.firmware)
     }
 }
-
-ghost use Rattle.pcrlock_input.specs.Logs.{AreRead, logs_of, plain_logs};
 
 /// Both logs, the firmware's first, each at the path that is named or at the usual one.
 ///
