@@ -1,0 +1,4 @@
+pub mod Few
+pub mod Localities
+pub mod Named
+pub mod Rows
