@@ -1,0 +1,4 @@
+pub mod Repeats
+pub mod Puttings
+pub mod Growth
+pub mod Spreads

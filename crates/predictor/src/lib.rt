@@ -1,0 +1,17 @@
+//! Prediction: the values that PCRs may have while a boot stands between two components, whatever
+//! variant each component takes (`--location` of systemd-pcrlock(8)), and which PCRs of a machine a
+//! policy can protect.
+#![tactic(auto)]
+
+mod error;
+
+
+mod foreseeing;
+mod reading;
+mod spreading;
+mod window;
+
+pub use error::{ForeseeError, WindowError};
+
+pub use reading::inside;
+pub use window::Window;
