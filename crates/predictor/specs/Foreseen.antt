@@ -31,9 +31,12 @@ has_too_many same reached first k = nat_lt value_limit (length (distinct same (r
 abbrev pub too_many_at : {A : Type 0} → (A → A → Bool) → (ℕ → List A) → ℕ → ℕ → Option ℕ
 too_many_at same reached first last = find (has_too_many same reached first) (range_with_len 0 (last + 1))
 
+abbrev pub lacking_error : RecordPlace → ForeseeError
+lacking_error at = errors.NoDigest at.component at.variant at.place
+
 -- a record lacks the bank, there are too many, or what is foreseen
 abbrev pub foreseen_unless : {A : Type 0} → Option RecordPlace → Option ℕ → List A → Result (List A) ForeseeError
-foreseen_unless (Some at) many list = Err (errors.NoDigest at.component at.variant at.place)
+foreseen_unless (Some at) many list = Err (lacking_error at)
 foreseen_unless None (Some k) list = Err (errors.TooMany k)
 foreseen_unless None None list = Ok list
 
