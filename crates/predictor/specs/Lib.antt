@@ -5,3 +5,5 @@ pub mod Cuts
 pub mod States
 pub mod Foreseen
 pub mod Spread
+pub mod Protected
+pub mod Sorting

@@ -166,6 +166,28 @@ fn lacking_in_one(components: &[Component], pcrs: &[u8], bank: Bank) -> Option<R
     None
 }
 
+/// The states of these PCRs, as `foresee_joint` says.
+pub(crate) fn foresee_pcrs(
+    alloc: Global,
+    tree: &Tree,
+    window: &Window,
+    pcrs: &[u8],
+    bank: Bank,
+    locality: u8,
+) -> Result<List<Values>, ForeseeError>
+    requires some { 1 ≤ length pcrs.now }
+    requires few { length pcrs.now ≤ 24 }
+    requires in_range { All (λ p. p ≤ 23) pcrs.now }
+    ensures { Answers result (foreseen_joint bank locality pcrs.now window.now (plain tree.now.components)) }
+{
+    let components = components_inside(tree, &window.end);
+    if let Some(at) = lacking_in_one(components, pcrs, bank) {
+        return Err(no_digest(at));
+    }
+    let first = inside(tree, &window.start) as usize;
+    spread(alloc, bank, locality, pcrs, components, first)
+}
+
 /// The states of the PCRs of the mask, ascending by PCR, after each choice of variants of the components
 /// before a cut, for each cut of the window and each choice in lexicographic order, one cut and one
 /// choice for all of the PCRs at once; later repeats are dropped.
@@ -188,10 +210,5 @@ pub fn foresee_joint(
     ensures { Answers result (foreseen_joint bank locality (pcrs_of pcrs) window.now (plain tree.now.components)) }
 {
     let pcrs = pcrs_in(alloc, pcrs)?;
-    let components = components_inside(tree, &window.end);
-    if let Some(at) = lacking_in_one(components, pcrs.as_slice(), bank) {
-        return Err(no_digest(at));
-    }
-    let first = inside(tree, &window.start) as usize;
-    spread(alloc, bank, locality, pcrs.as_slice(), components, first)
+    foresee_pcrs(alloc, tree, window, pcrs.as_slice(), bank, locality)
 }

@@ -7,11 +7,14 @@ mod error;
 
 
 mod foreseeing;
+mod protecting;
+mod protection;
 mod reading;
 mod spreading;
 mod window;
 
-pub use error::{ForeseeError, WindowError};
+pub use error::{ForeseeError, ProtectError, WindowError};
 
+pub use protection::{Cause, LeftOut, Protection};
 pub use reading::inside;
 pub use window::Window;
