@@ -1,13 +1,12 @@
 -- The states after one component more are those after each of its variants.
-use Rattle.std.proofs.Common.{◌≡◌, ℕ, suc, ◌+◌, List, [], ◌∷◌, ◌++◌, length, map, Option, Some, None, refl, sym, ap, ◌∙◌, append_assoc}
-use Rattle.std.specs.Prelude.{fold, slice_get}
+use Rattle.std.proofs.Common.{◌≡◌, ℕ, ◌+◌, List, [], ◌∷◌, ◌++◌, length, map, Option, Some, refl, sym, ap, ◌∙◌, append_assoc}
+use Rattle.std.specs.Prelude.{slice_get}
 use Rattle.std.specs.List.{flat_map, range_with_len}
 use Rattle.std.specs.Option.{option_to_list}
 use Rattle.std.proofs.lemmas.List.{map-append, append-nil, length_push}
 use Rattle.std.proofs.lemmas.List.Concat.{flat_map-append}
 use Rattle.hash_bank.specs.Extending.{extended}
 use Rattle.hash_bank.specs.declared.bank.Bank.{Bank}
-use Rattle.cel_record.specs.Spelled.{Spelled}
 use Rattle.component_tree.specs.PlainTree.{PlainVariant, PlainComponent}
 use Rattle.pcr_replay.specs.Measured.{extended_by}
 use Rattle.record_match.specs.Choices.{choices, chosen}
@@ -47,8 +46,8 @@ by_number h before [] n is = refl
 by_number {A} h before (x ∷ xs) n is =
     ap (λ (o : Option A). h o ++ flat_map (λ k. h (slice_get (before ++ x ∷ xs) k)) (range_with_len (n + 1) (length xs))) (slice_get_at before x xs n is)
     ∙ ap (λ (l : List _). h (Some x) ++ l) (
-        ap (λ (all : List A). flat_map (λ k. h (slice_get all k)) (range_with_len (n + 1) (length xs))) (sym (append_assoc before (x ∷ []) xs))
-        ∙ by_number h (before ++ x ∷ []) xs (n + 1) (length_push before x ∙ ap (λ k. k + 1) is))
+    ap (λ (all : List A). flat_map (λ k. h (slice_get all k)) (range_with_len (n + 1) (length xs))) (sym (append_assoc before (x ∷ []) xs))
+    ∙ by_number h (before ++ x ∷ []) xs (n + 1) (length_push before x ∙ ap (λ k. k + 1) is))
 
 -- ---- extends of one variant more
 
@@ -81,9 +80,9 @@ first_component bank pcrs f c components =
     ∙ flat_map-same (λ n. map state (map (λ choice. n ∷ choice) cs)) (λ n. h (slice_get c.variants n)) (λ n. map-map (λ choice. n ∷ choice) state cs) (range_with_len 0 (length c.variants))
     ∙ by_number h [] c.variants 0 refl
     ∙ flat_map-same (λ v. h (Some v)) (λ v. states_from bank pcrs (after_variant bank f v) components)
-        (λ v. map-same (λ choice. map (λ p. extended_by bank (f p) (flat_map (λ v. digests_in bank p v.records) (v ∷ chosen (variants_of components) choice))) pcrs) (λ choice. map (λ p. extended_by bank (after_variant bank f v p) (extends_of bank p components choice)) pcrs)
-            (λ choice. map-same (λ p. extended_by bank (f p) (flat_map (λ v. digests_in bank p v.records) (v ∷ chosen (variants_of components) choice))) (λ p. extended_by bank (after_variant bank f v p) (extends_of bank p components choice)) (λ p. one_variant bank p (f p) v (chosen (variants_of components) choice)) pcrs) cs)
-        c.variants
+    (λ v. map-same (λ choice. map (λ p. extended_by bank (f p) (flat_map (λ v. digests_in bank p v.records) (v ∷ chosen (variants_of components) choice))) pcrs) (λ choice. map (λ p. extended_by bank (after_variant bank f v p) (extends_of bank p components choice)) pcrs)
+    (λ choice. map-same (λ p. extended_by bank (f p) (flat_map (λ v. digests_in bank p v.records) (v ∷ chosen (variants_of components) choice))) (λ p. extended_by bank (after_variant bank f v p) (extends_of bank p components choice)) (λ p. one_variant bank p (f p) v (chosen (variants_of components) choice)) pcrs) cs)
+    c.variants
 
 -- one component more at the end
 pub one_more : (bank : Bank) (pcrs : List ℕ) (f : ℕ → List ℕ) (components : List PlainComponent) (d : PlainComponent) → states_from bank pcrs f (components ++ d ∷ []) ≡ next_states bank pcrs d.variants (states_from bank pcrs f components)

@@ -6,3 +6,4 @@ pub mod Insides
 pub mod OnePcr
 pub mod MaskLists
 pub mod WindowLemmas
+pub mod Sorts

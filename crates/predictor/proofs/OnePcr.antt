@@ -1,6 +1,5 @@
 -- The values of one PCR, as states of it alone.
-use Rattle.std.proofs.Common.{◌≡◌, ℕ, ◌+◌, Bool, true, false, ◌&&◌, ◌||◌, ltb, List, [], ◌∷◌, ◌++◌, length, map, take, Option, Some, None, Result, Ok, Err, refl, sym, ap, ◌∙◌}
-use Rattle.std.specs.Prelude.{find}
+use Rattle.std.proofs.Common.{◌≡◌, ℕ, ◌+◌, Bool, true, false, ◌&&◌, ◌||◌, ltb, List, [], ◌∷◌, ◌++◌, length, map, Option, Some, None, Ok, refl, sym, ap, ◌∙◌}
 use Rattle.std.specs.List.{flat_map, range_with_len}
 use Rattle.std.specs.Str.{bytes_eq}
 use Rattle.std.specs.Result.{result_map_both}
@@ -11,16 +10,15 @@ use Rattle.policy_digest.specs.Levels.{first_of}
 use Rattle.policy_digest.specs.Table.{values_eq}
 use Rattle.record_match.specs.Choices.{choices}
 use Rattle.record_match.specs.Extends.{variants_of, reached_by}
-use Rattle.record_match.specs.declared.lacking.RecordPlace.{RecordPlace}
 use Rattle.record_match.proofs.Searches.{find-same}
 use Rattle.predictor.specs.declared.error.ForeseeError.{ForeseeError}
 use Rattle.predictor.specs.declared.error.ForeseeError.TheVariants as errors
 use Rattle.predictor.specs.Cuts.{cuts_between}
-use Rattle.predictor.specs.Distinct.{put_all, distinct}
+use Rattle.predictor.specs.Distinct.{distinct}
 use Rattle.predictor.specs.States.{values_after, states_after}
-use Rattle.predictor.specs.Foreseen.{value_limit, over_cuts, has_too_many, too_many_at, foreseen_by, foreseen_unless, Answers, Refuses}
+use Rattle.predictor.specs.Foreseen.{value_limit, over_cuts, has_too_many, too_many_at, foreseen_by, foreseen_unless, Refuses}
 use Rattle.predictor.proofs.Repeats.{put_viewed}
-use Rattle.predictor.proofs.Growth.{map-map, map-flat_map}
+use Rattle.predictor.proofs.Growth.{map-map}
 
 abbrev State : Type 0
 State = List (List ℕ)

@@ -1,6 +1,5 @@
 -- Members put to a list one after the other, up to a limit.
-use Rattle.std.proofs.Common.{◌≡◌, ℕ, ◌+◌, ◌<◌, ◌≤◌, List, [], ◌∷◌, ◌++◌, length, get_or, drop, map, Result, Ok, Err, refl, sym, ap, ◌∙◌, subst, arith}
-use Rattle.std.specs.List.{flat_map}
+use Rattle.std.proofs.Common.{◌≡◌, ℕ, ◌+◌, ◌<◌, List, length, get_or, drop, map, Err, refl, sym, ap, ◌∙◌, arith}
 use Rattle.record_match.proofs.Plainly.{next}
 use Rattle.hash_bank.specs.declared.bank.Bank.{Bank}
 use Rattle.component_tree.specs.PlainTree.{PlainVariant}

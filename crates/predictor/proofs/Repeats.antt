@@ -1,9 +1,8 @@
 -- Later repeats, dropped early or late.
-use Rattle.std.proofs.Common.{◌≡◌, ℕ, suc, ◌+◌, ◌<◌, ◌≤◌, Bool, true, false, cond, ◌||◌, List, [], ◌∷◌, ◌++◌, length, map, refl, sym, ap, ◌∙◌, subst, inl, inr, append_assoc, arith}
-use Rattle.std.specs.Prelude.{fold}
+use Rattle.std.proofs.Common.{◌≡◌, ◌≤◌, Bool, true, false, cond, ◌||◌, List, [], ◌∷◌, ◌++◌, length, map, refl, sym, ap, ◌∙◌, subst, inl, inr, arith}
 use Rattle.std.specs.List.{list_any, flat_map, All}
 use Rattle.std.proofs.lemmas.Bool.{cases_Bool, or_cases, or_left, or_right, false≢true}
-use Rattle.std.proofs.lemmas.List.{length_push, length-append, append-nil}
+use Rattle.std.proofs.lemmas.List.{length_push, append-nil}
 use Rattle.std.proofs.lemmas.List.Elements.{All-push}
 use Rattle.std.proofs.lemmas.List.Concat.{flat_map-append}
 use Rattle.std.proofs.lemmas.Slice.Eq.{slice_eq-Decides, bytes_eq-Decides}
@@ -148,8 +147,8 @@ pub put_viewed : {A B : Type 0} (same : A → A → Bool) (same_b : B → B → 
 put_viewed same same_b g is list [] = refl
 put_viewed same same_b g is list (x ∷ xs) =
     ap (λ l. put_all same_b l (map g xs)) (
-        ap (λ b. cond b (map g list) (map g list ++ g x ∷ [])) (any_viewed same same_b g is x list)
-        ∙ elim (list_any (same x) list) as (λ b. cond b (map g list) (map g list ++ g x ∷ []) ≡ map g (cond b list (list ++ x ∷ []))) [ true ↦ refl | false ↦ map_push_to g list x ])
+    ap (λ b. cond b (map g list) (map g list ++ g x ∷ [])) (any_viewed same same_b g is x list)
+    ∙ elim (list_any (same x) list) as (λ b. cond b (map g list) (map g list ++ g x ∷ []) ≡ map g (cond b list (list ++ x ∷ []))) [ true ↦ refl | false ↦ map_push_to g list x ])
     ∙ put_viewed same same_b g is (put same list x) xs
 
 -- ---- lists only grow

@@ -1,10 +1,10 @@
 -- What is kept, cut after cut.
-use Rattle.std.proofs.Common.{◌≡◌, ℕ, zero, suc, ◌+◌, ◌-◌, ◌<◌, ◌≤◌, Bool, true, false, cond, ◌||◌, ltb, leb, eqb, List, [], ◌∷◌, ◌++◌, length, get_or, take, map, Option, Some, None, Result, Ok, Err, refl, sym, ap, ◌∙◌, subst, inl, inr, append_assoc, zero-add, add-one, arith}
+use Rattle.std.proofs.Common.{◌≡◌, ℕ, zero, suc, ◌+◌, ◌-◌, ◌<◌, ◌≤◌, Bool, true, false, cond, ltb, leb, eqb, List, [], ◌∷◌, ◌++◌, length, get_or, take, map, Option, Some, None, Ok, Err, refl, sym, ap, ◌∙◌, subst, inl, inr, arith}
 use Rattle.std.specs.Prelude.{find}
-use Rattle.std.specs.List.{flat_map, range_with_len, All}
+use Rattle.std.specs.List.{flat_map, range_with_len}
 use Rattle.std.specs.Option.{option_or}
-use Rattle.std.proofs.lemmas.Bool.{cases_Bool, cases_lt, lt-ltb, le-ltb, or_left, or_right, or_from, lt-leb, le-leb, ne_eqb}
-use Rattle.std.proofs.lemmas.List.{take_more, append-nil, map_more, take-map}
+use Rattle.std.proofs.lemmas.Bool.{cases_lt, lt-ltb, le-ltb, or_left, or_right, or_from, lt-leb, le-leb, ne_eqb}
+use Rattle.std.proofs.lemmas.List.{append-nil, map_more, take-map}
 use Rattle.std.proofs.lemmas.List.Concat.{flat_map-append}
 use Rattle.hash_bank.specs.Extending.{start_of}
 use Rattle.hash_bank.specs.declared.bank.Bank.{Bank}
@@ -14,13 +14,11 @@ use Rattle.policy_digest.specs.Table.{values_eq}
 use Rattle.record_match.proofs.Searches.{find-append}
 use Rattle.predictor.specs.declared.spreading.Stop.{Stop}
 use Rattle.predictor.specs.declared.spreading.Stop.TheVariants as stops
-use Rattle.predictor.specs.declared.error.ForeseeError.{ForeseeError}
-use Rattle.predictor.specs.declared.error.ForeseeError.TheVariants as errors
 use Rattle.predictor.specs.Cuts.{cuts_between}
-use Rattle.predictor.specs.Distinct.{put, put_all, distinct}
+use Rattle.predictor.specs.Distinct.{put_all, distinct}
 use Rattle.predictor.specs.States.{states_after}
-use Rattle.predictor.specs.Foreseen.{value_limit, over_cuts, has_too_many, too_many_at, foreseen_by, foreseen_unless, Answers, Refuses}
-use Rattle.predictor.specs.Spread.{extended_state, next_states, Puts, Collects, IsState, stopped_at}
+use Rattle.predictor.specs.Foreseen.{value_limit, over_cuts, has_too_many, foreseen_by, foreseen_unless, Refuses}
+use Rattle.predictor.specs.Spread.{extended_state, next_states, Puts, Collects, stopped_at}
 use Rattle.predictor.proofs.Repeats.{values_tell, all_put-append, put_distinct, dropped_early}
 use Rattle.predictor.proofs.Growth.{one_more}
 

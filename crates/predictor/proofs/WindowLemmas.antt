@@ -1,5 +1,5 @@
 -- What is foreseen over a window, said of the components inside its end.
-use Rattle.std.proofs.Common.{◌≡◌, ℕ, ◌<◌, ◌≤◌, List, [], ◌∷◌, length, take, map, Option, Some, None, Result, Ok, Err, refl, sym, ap, ◌∙◌, subst, arith}
+use Rattle.std.proofs.Common.{◌≡◌, ℕ, List, [], ◌∷◌, length, take, map, Some, None, Result, Ok, sym, ap, ◌∙◌, subst}
 use Rattle.std.specs.Str.{bytes_eq}
 use Rattle.hash_bank.specs.declared.bank.Bank.{Bank}
 use Rattle.component_tree.specs.declared.tree.Component.{Component}
@@ -12,7 +12,7 @@ use Rattle.predictor.specs.declared.error.ForeseeError.{ForeseeError}
 use Rattle.predictor.specs.declared.window.Window.{Window}
 use Rattle.predictor.specs.Cuts.{inside_of}
 use Rattle.predictor.specs.States.{values_after, states_after}
-use Rattle.predictor.specs.Foreseen.{first_cut, last_cut, foreseen, foreseen_joint, foreseen_by, lacking_error, lacking_in_any, Answers, Refuses}
+use Rattle.predictor.specs.Foreseen.{first_cut, foreseen, foreseen_joint, foreseen_by, lacking_error, lacking_in_any, Answers, Refuses}
 use Rattle.predictor.proofs.OnePcr.{states_alone, ok_alone, err_alone}
 use Rattle.predictor.proofs.Insides.{plain_count}
 
@@ -75,6 +75,6 @@ joint_has bank locality pcrs window tree components first result is has from_fir
     let reach : ℕ → List (List (List ℕ)) = λ k. states_after bank locality pcrs (take k (plain components)) in
     subst (λ (r : Result (List (List (List ℕ))) ForeseeError). Answers result r)
     (sym (joint_is bank locality pcrs window tree (plain components) is
-        ∙ ap (foreseen_by values_eq reach (first_cut window tree) (length (plain components))) (sym has)
-        ∙ ap (λ n. foreseen_by values_eq reach (first_cut window tree) n None) (plain_count components)
-        ∙ ap (λ n. foreseen_by values_eq reach n (length components) None) (sym from_first))) h
+    ∙ ap (foreseen_by values_eq reach (first_cut window tree) (length (plain components))) (sym has)
+    ∙ ap (λ n. foreseen_by values_eq reach (first_cut window tree) n None) (plain_count components)
+    ∙ ap (λ n. foreseen_by values_eq reach n (length components) None) (sym from_first))) h

@@ -1,5 +1,5 @@
 -- Where a window's boots may stand. A cut is a number of components, all of which have been measured.
-use Rattle.std.specs.Prelude.{ℕ, ◌+◌, ◌-◌, Bool, not, List, length, filter}
+use Rattle.std.specs.Prelude.{ℕ, ◌+◌, ◌-◌, Bool, not, List, filter}
 use Rattle.std.specs.List.{range_with_len}
 use Rattle.component_tree.specs.PlainTree.{PlainComponent}
 use Rattle.predictor.specs.Ends.{is_greater}

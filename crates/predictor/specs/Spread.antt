@@ -1,10 +1,10 @@
 -- How distinct states spread from component to component.
-use Rattle.std.specs.Prelude.{◌≡◌, ◌≤◌, ◌<◌, ℕ, List, [], ◌∷◌, length, map, Option, Some, None, Result, Ok, Err}
+use Rattle.std.specs.Prelude.{◌≡◌, ◌≤◌, ◌<◌, ℕ, List, [], ◌∷◌, length, map, Result, Ok, Err}
 use Rattle.std.specs.List.{All, flat_map}
 use Rattle.hash_bank.specs.Hash.{size_in}
 use Rattle.hash_bank.specs.declared.bank.Bank.{Bank}
 use Rattle.cel_record.specs.Spelled.{Spelled}
-use Rattle.component_tree.specs.PlainTree.{PlainVariant, PlainComponent}
+use Rattle.component_tree.specs.PlainTree.{PlainVariant}
 use Rattle.pcr_replay.specs.Measured.{extended_by}
 use Rattle.policy_digest.specs.Table.{values_eq}
 use Rattle.record_match.specs.Extends.{digests_in}

@@ -56,7 +56,13 @@ fn spread(
     }
     for (number, component) in components.iter().enumerate() {
         let cut = number + 1;
-        match step(alloc, bank, pcrs, states.as_slice(), component.variants.as_slice()) {
+        match step(
+            alloc,
+            bank,
+            pcrs,
+            states.as_slice(),
+            component.variants.as_slice(),
+        ) {
             Ok(next) => states = next,
             Err(stop) => return Err(stopped(stop, cut as u32)),
         }

@@ -4,8 +4,6 @@
 #![tactic(auto)]
 
 mod error;
-
-
 mod foreseeing;
 mod protecting;
 mod protection;
@@ -14,7 +12,7 @@ mod spreading;
 mod window;
 
 pub use error::{ForeseeError, ProtectError, WindowError};
-
+pub use protecting::protect;
 pub use protection::{Cause, LeftOut, Protection};
 pub use reading::inside;
 pub use window::Window;

@@ -140,7 +140,13 @@ fn put_after(
     ensures all_fit { OnOk result (All (IsState bank (length pcrs.now)) list.new) }
 {
     for variant in variants {
-        match next_state(alloc, bank, pcrs, state.as_slice(), variant.records.as_slice()) {
+        match next_state(
+            alloc,
+            bank,
+            pcrs,
+            state.as_slice(),
+            variant.records.as_slice(),
+        ) {
             Ok(next) => match put_new(list, next) {
                 Ok(()) => {}
                 Err(_) => return Err(Stop::Memory),

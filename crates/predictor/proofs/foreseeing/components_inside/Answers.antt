@@ -1,6 +1,5 @@
-use Rattle.std.proofs.Common.{◌≡◌, ◌≤◌, length, map, sym, ap, ◌∙◌, arith, take}
+use Rattle.std.proofs.Common.{◌≡◌, ◌≤◌, length, sym, ap, ◌∙◌, arith, take}
 use Rattle.std.proofs.lemmas.List.{length-take-le}
-use Rattle.component_tree.specs.declared.tree.Component.{Component}
 use Rattle.component_tree.specs.PlainTree.{plain}
 use Rattle.predictor.specs.Cuts.{inside_of}
 use Rattle.predictor.proofs.Insides.{first_inside, few_inside, plain_count}

@@ -1,4 +1,4 @@
-use Rattle.std.proofs.Common.{◌≡◌, ℕ, List, sym, ap, ◌∙◌, subst, map}
+use Rattle.std.proofs.Common.{sym, ap, ◌∙◌, subst, map}
 use Rattle.component_tree.specs.PlainTree.{plain}
 use Rattle.policy_digest.specs.Levels.{first_of}
 use Rattle.predictor.specs.declared.error.ForeseeError.{ForeseeError}

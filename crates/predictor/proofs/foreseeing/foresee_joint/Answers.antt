@@ -1,4 +1,4 @@
-use Rattle.std.proofs.Common.{◌≡◌, ◌≤◌, length, ap, ◌∙◌}
+use Rattle.std.proofs.Common.{◌≡◌, ◌∙◌}
 use Rattle.policy_digest.specs.Mask.{pcrs_of}
 use Rattle.predictor.proofs.MaskLists.{some_listed}
 use Rattle.predictor.proofs.foreseeing.foresee_joint.Goals as goal

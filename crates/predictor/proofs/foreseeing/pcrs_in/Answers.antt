@@ -1,10 +1,9 @@
-use Rattle.std.proofs.Common.{◌≡◌, ◌≤◌, ◌<◌, ◌++◌, ◌∷◌, [], ℕ, List, length, sym, ap, ◌∙◌, subst, arith}
+use Rattle.std.proofs.Common.{◌≡◌, ◌≤◌, ◌++◌, ◌∷◌, [], ℕ, List, length, sym, ap, ◌∙◌, subst, arith}
 use Rattle.std.specs.List.{All}
 use Rattle.std.proofs.lemmas.List.{length_push}
 use Rattle.std.proofs.lemmas.List.Elements.{All-push, All-nil}
-use Rattle.policy_digest.specs.Mask.{pcrs_of}
 use Rattle.policy_digest.proofs.Masks.{pcrs_from}
-use Rattle.predictor.proofs.MaskLists.{listed_first, listed_in, listed_out, listed_all}
+use Rattle.predictor.proofs.MaskLists.{listed_first, listed_in, listed_out}
 use Rattle.predictor.proofs.foreseeing.pcrs_in.Goals.{then-is_in_mask+in_ok-push, else-is_in_mask}
 use Rattle.predictor.proofs.foreseeing.pcrs_in.Goals as goal
 

@@ -1,4 +1,4 @@
-use Rattle.std.proofs.Common.{◌≡◌, length, take}
+use Rattle.std.proofs.Common.{length, take}
 use Rattle.std.specs.List.{All}
 use Rattle.component_tree.specs.PlainTree.{plain}
 use Rattle.predictor.specs.States.{states_after}

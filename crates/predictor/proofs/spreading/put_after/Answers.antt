@@ -1,6 +1,5 @@
 use Rattle.std.proofs.Common.{◌≡◌, ◌<◌, ℕ, List, length, drop, map, ◌+◌, arith, ap, sym, ◌∙◌, subst}
 use Rattle.std.specs.List.{All}
-use Rattle.cel_record.specs.Spelled.{spelled}
 use Rattle.component_tree.specs.PlainTree.{PlainVariant, plain_variant}
 use Rattle.policy_digest.specs.Table.{values_eq}
 use Rattle.predictor.specs.Distinct.{put, put_all}
