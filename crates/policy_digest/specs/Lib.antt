@@ -6,3 +6,5 @@ pub mod Levels
 pub mod PlainTable
 pub mod TableStrings
 pub mod BindingStrings
+pub mod Mask
+pub mod Table

@@ -1,0 +1,9 @@
+pub mod Repeats
+pub mod Puttings
+pub mod Growth
+pub mod Spreads
+pub mod Insides
+pub mod OnePcr
+pub mod MaskLists
+pub mod WindowLemmas
+pub mod Sorts

@@ -1,0 +1,6 @@
+use Rattle.std.proofs.Common.{◌≡◌, map, take}
+use Rattle.policy_digest.specs.Levels.{first_of}
+use Rattle.predictor.proofs.foreseeing.first_values.Given as goal
+
+abbrev pub invariant-loop-state : goal.invariant-loop-state
+invariant-loop-state l = l.list ≡ map first_of (take l.state-index l.states)

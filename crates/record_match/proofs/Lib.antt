@@ -1,0 +1,5 @@
+pub mod Plainly
+pub mod Searches
+pub mod FirstChoice
+pub mod MissingOne
+pub mod Recognised

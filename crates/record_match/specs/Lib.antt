@@ -1,0 +1,9 @@
+pub mod Choices
+pub mod Extends
+pub mod Lacking
+pub mod Subsequence
+pub mod Steps
+pub mod Walk
+pub mod Follow
+pub mod Recognition
+pub mod ListedBy
