@@ -1,5 +1,5 @@
 -- A command by what its device stores.
-use Rattle.std.proofs.Common.{◌≡◌, ◌⊎◌, ℕ, List, inl, inr, refl, sym, ap, ◌∙◌, subst}
+use Rattle.std.proofs.Common.{◌≡◌, ◌⊎◌, ℕ, List, [], ◌∷◌, inl, inr, refl, sym, ap, ◌∙◌, subst}
 use Rattle.std.specs.Prelude.{Option, None, Some, IfOk, IfErr, Result, Ok, Err}
 use Rattle.pl_base.specs.FileMap.{FileMap}
 use Rattle.tpm_model.specs.declared.parts.Parts.{Parts}
@@ -89,3 +89,8 @@ pub stands_live : (held : Option FileMap) (stored : Option Stored) (m : Machine)
 stands_live held stored m s e at =
     let M : Stored → Machine = λ d. record { files = m.files; device = d; draws = m.draws } in
     subst (λ d. StandsAt held stored (M d)) e at
+
+-- a stop of a command that changes nothing
+pub stands_unchanged : {A : Type 0} (held : Option FileMap) (stored : Option Stored) (words : Option (List (List ℕ))) (m : Machine) (result : Result A Stop) → IfErr result (λ _. Tells held stored words m) → IfErr result (λ _. StandsAmong held stored (m ∷ []))
+stands_unchanged held stored words m (Ok x) h = tt
+stands_unchanged held stored words m (Err stop) h = inl (stands held stored words m h)

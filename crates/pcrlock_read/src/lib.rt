@@ -5,7 +5,7 @@
 mod listing;
 mod printing;
 
-pub use crate::listing::{components_text, list_components};
+pub use crate::listing::list_components;
 pub use crate::printing::cel;
 
 #[cfg(test)]

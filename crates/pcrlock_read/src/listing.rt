@@ -1,54 +1,19 @@
 //! `list-components`: the variants of all components.
-ghost use Rattle.std.specs.Prelude.{◌≡◌, ◌++◌, ℕ, string_bytes, List as Sequence, Option as Maybe, Some, Err, IfOk, IfErr, OnOk};
+ghost use Rattle.std.specs.Prelude.{◌≡◌, ℕ, List as Sequence, Option as Maybe, Some, Err, IfOk, IfErr};
 ghost use Rattle.pl_base.specs.Faults.{HasCause};
 ghost use Rattle.pl_base.specs.FileMap.{FileMap};
-ghost use Rattle.component_tree.specs.PlainTree.{plain, plain_component, plain_variant};
 ghost use Rattle.tpm_device.specs.Stored.{Stored};
 ghost use Rattle.pcrlock_line.specs.Causes.{HasCauses};
 ghost use Rattle.pcrlock_line.specs.Machine.{Machine, Tells};
 ghost use Rattle.pcrlock_line.specs.Outcome.{Gives};
 ghost use Rattle.pcrlock_input.specs.Answering.{Answers};
-ghost use Rattle.pcrlock_read.specs.ComponentLines.{variant_text, component_lines, components_text as text_of, listed_of, list_components_line};
+ghost use Rattle.pcrlock_read.specs.ComponentLines.{listed_of, list_components_line};
 
-use component_tree::{Component, Tree, Variant};
 use pcrlock_input::{InputError, read_components};
 use pcrlock_line::{Reply, Stop};
-use pl_base::{Files, Memory, Name};
+use pcrlock_words::components_text;
+use pl_base::{Files, Name};
 use std::alloc::Global;
-
-/// The line of a variant of the component of this id.
-#[tactic(auto, unfolding(crate::specs::ComponentLines::variant_text))]
-fn variant_line(alloc: Global, id: &str, variant: &Variant) -> Result<String, Memory>
-    ensures { IfOk result (λ line. string_bytes line ≡ variant_text id.now (plain_variant variant.now)) }
-{
-    let name = variant.name.text();
-    let records = variant.records.len();
-    Ok(format!(in alloc; "{id} {name} {records}\n")?)
-}
-
-/// Writes the lines of a component.
-fn write_component(alloc: Global, out: &mut String, component: &Component) -> Result<(), Memory>
-    ensures { OnOk result (string_bytes out.new ≡ string_bytes out.old ++ component_lines (plain_component component.now)) }
-{
-    let id = component.id.text();
-    for variant in component.variants.as_slice() {
-        let line = variant_line(alloc, id, variant)?;
-        out.push_str(line.as_str())?;
-    }
-    Ok(())
-}
-
-/// A line for each variant of the components, in their order: the component's id, the variant's name
-/// and the number of its records, with blanks between.
-pub fn components_text(alloc: Global, tree: &Tree) -> Result<Vec<u8>, Memory>
-    ensures { IfOk result (λ text. text.items ≡ text_of (plain tree.now.components)) }
-{
-    let mut out = String::new(alloc);
-    for component in tree.components.as_slice() {
-        write_component(alloc, &mut out, component)?;
-    }
-    Ok(out.into_bytes())
-}
 
 /// The text of the components in the folders.
 fn listed<F: Files>(alloc: Global, files: &mut F, folders: &[Name]) -> Result<Vec<u8>, InputError>

@@ -5,6 +5,8 @@ use Rattle.std.proofs.lemmas.Bool.{le-leb}
 use Rattle.pcrlock_words.specs.declared.request.Request.{Request}
 use Rattle.pcrlock_words.specs.declared.request.Request.TheVariants as requests
 use Rattle.pcrlock_line.specs.Machine.{Machine}
+use Rattle.pcrlock_read.specs.Cel.{cel_line}
+use Rattle.pcrlock_read.specs.ComponentLines.{list_components_line}
 use Rattle.pcrlock_tpm.specs.Extend.{tpm_extend_line}
 use Rattle.hash_bank.specs.declared.bank.Bank.{Bank}
 use Rattle.pcrlock_words.specs.declared.answer.Answer.TheVariants as answers
@@ -37,6 +39,14 @@ enrolls state request token policy key literal bank m is = ap (λ (r : Request).
 pub unseals : (state : List ℕ) (request : Request) (token policy : List ℕ) (m : Machine) → request ≡ requests.Unseal token policy → command_line state request m ≡ unseal_outcome state token m
 unfolding command_line
 unseals state request token policy m is = ap (λ (r : Request). command_line state r m) is
+
+pub prints : (state : List ℕ) (request : Request) (firmware user : Option (List ℕ)) (m : Machine) → request ≡ requests.Cel firmware user → command_line state request m ≡ cel_line firmware user m
+unfolding command_line
+prints state request firmware user m is = ap (λ (r : Request). command_line state r m) is
+
+pub lists : (state : List ℕ) (request : Request) (folders : List (List ℕ)) (m : Machine) → request ≡ requests.ListComponents folders → command_line state request m ≡ list_components_line folders m
+unfolding command_line
+lists state request folders m is = ap (λ (r : Request). command_line state r m) is
 
 -- what holds of an outcome holds of one that equals it
 pub by_outcome : (a b : Outcome) (L : Outcome → Type 0) → a ≡ b → L b → L a

@@ -61,6 +61,9 @@ grows_command state (requests.TpmExtend pcr bytes) m w =
     grows_if (nat_le pcr 23) w _ (grows_state m.device m w (λ (live : Live) (v : World). extend_world pcr bytes live.state v) (λ live x h. h))
 grows_command state (requests.Enroll token policy key literal bank) m w = grows_enrolled key literal bank m w
 grows_command state (requests.Unseal token policy) m w = grows_hashed w (unseal_outcome state token m).hashed
+grows_command state (requests.Cel firmware user) m w = λ x h. h
+grows_command state (requests.ListComponents folders) m w = λ x h. h
+grows_command state (requests.TpmBoot firmware user locality banks) m w = λ x h. h
 grows_command state (requests.Script file policy index) m w = λ x h. h
 
 grows_answered : (state : List ℕ) (o : Option Request) (m : Machine) (w : World) → Grows w (answered_world state o m w)
@@ -89,6 +92,9 @@ command_exact : (state : List ℕ) (o : Option Request) (m : Machine) (w : World
 command_exact state (Some (requests.Unseal token policy)) m w t safe = unseal_exact state token m w t safe
 command_exact state (Some (requests.Enroll token policy key literal bank)) m w t safe = tt
 command_exact state (Some (requests.TpmExtend pcr bytes)) m w t safe = tt
+command_exact state (Some (requests.Cel firmware user)) m w t safe = tt
+command_exact state (Some (requests.ListComponents folders)) m w t safe = tt
+command_exact state (Some (requests.TpmBoot firmware user locality banks)) m w t safe = tt
 command_exact state (Some (requests.Script file policy index)) m w t safe = tt
 command_exact state None m w t safe = tt
 
@@ -111,6 +117,9 @@ request_exact state (Some (requests.Script file policy index)) m w t safe = line
 request_exact state (Some (requests.Unseal token policy)) m w t safe = unseal_exact state token m w t safe
 request_exact state (Some (requests.Enroll token policy key literal bank)) m w t safe = tt
 request_exact state (Some (requests.TpmExtend pcr bytes)) m w t safe = tt
+request_exact state (Some (requests.Cel firmware user)) m w t safe = tt
+request_exact state (Some (requests.ListComponents folders)) m w t safe = tt
+request_exact state (Some (requests.TpmBoot firmware user locality banks)) m w t safe = tt
 request_exact state None m w t safe = tt
 
 pub run_exact : (words : List (List ℕ)) (m : Machine) (w : World) → IsTied m.device w → Safe (run_world words m w).hashed → RunIsExact words m w

@@ -85,6 +85,9 @@ command_kept state (requests.TpmExtend pcr bytes) m w t =
     if_pcr (nat_le pcr 23) (tpm_extend_line state pcr bytes m) _ w m (extend_kept m.device state pcr bytes m w t) t
 command_kept state (requests.Enroll token policy key literal bank) m w t = enrolled_kept state token key literal bank m w t
 command_kept state (requests.Unseal token policy) m w t = unsealed_kept state token m w t
+command_kept state (requests.Cel firmware user) m w t = t
+command_kept state (requests.ListComponents folders) m w t = t
+command_kept state (requests.TpmBoot firmware user locality banks) m w t = t
 command_kept state (requests.Script file policy index) m w t = t
 
 answered_kept : (state : List ℕ) (o : Option Request) (m : Machine) (w : World) → IsTied m.device w → IsTied (answered state o m).after.device (answered_world state o m w)
@@ -126,6 +129,9 @@ request_kept state (requests.Script file policy index) m w t = content_kept stat
 request_kept state (requests.Enroll token policy key literal bank) m w t = command_kept state (requests.Enroll token policy key literal bank) m w t
 request_kept state (requests.Unseal token policy) m w t = command_kept state (requests.Unseal token policy) m w t
 request_kept state (requests.TpmExtend pcr bytes) m w t = command_kept state (requests.TpmExtend pcr bytes) m w t
+request_kept state (requests.Cel firmware user) m w t = command_kept state (requests.Cel firmware user) m w t
+request_kept state (requests.ListComponents folders) m w t = command_kept state (requests.ListComponents folders) m w t
+request_kept state (requests.TpmBoot firmware user locality banks) m w t = command_kept state (requests.TpmBoot firmware user locality banks) m w t
 
 spelled_kept : (state : List ℕ) (o : Option Request) (m : Machine) (w : World) → IsTied m.device w
     → IsTied (run_spelled state o m).after.device (spelled_world state o m w)

@@ -44,4 +44,7 @@ command_last held stored state (requests.TpmExtend pcr bytes) m =
     (stops_last held stored state m (extended_line pcr bytes) (λ s e at. last_stop held stored (record { files = m.files; state = s; draws = m.draws }) pcr bytes at))
 command_last held stored state (requests.Enroll token policy key literal bank) m = enroll_last held stored state token key literal bank m
 command_last held stored state (requests.Unseal token policy) m = unsealed_last held stored state token m
+command_last held stored state (requests.Cel firmware user) m = λ at. inl at
+command_last held stored state (requests.ListComponents folders) m = λ at. inl at
+command_last held stored state (requests.TpmBoot firmware user locality banks) m = λ at. inl at
 command_last held stored state (requests.Script file policy index) m = λ at. inl at

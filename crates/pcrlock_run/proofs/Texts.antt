@@ -72,6 +72,9 @@ alone_request state (requests.Script file policy index) m none = absurd none
 alone_request state (requests.Enroll token policy key literal bank) m none = refl
 alone_request state (requests.Unseal token policy) m none = refl
 alone_request state (requests.TpmExtend pcr bytes) m none = refl
+alone_request state (requests.Cel firmware user) m none = refl
+alone_request state (requests.ListComponents folders) m none = refl
+alone_request state (requests.TpmBoot firmware user locality banks) m none = refl
 
 -- words behind the path of a state
 pub spelled_words : (words : List (List ℕ)) (state : List ℕ) (m : Machine) → slice_get words 0 ≡ Some state → run_line words m ≡ run_spelled state (request_of words None) m

@@ -25,6 +25,9 @@ abbrev pub CommandIsExact : List ℕ → Option Request → Machine → World �
 CommandIsExact state (Some (requests.Unseal token policy)) m w = UnsealIsExact state token m w
 CommandIsExact state (Some (requests.Enroll token policy key literal bank)) m w = Unit {0}
 CommandIsExact state (Some (requests.TpmExtend pcr bytes)) m w = Unit {0}
+CommandIsExact state (Some (requests.Cel firmware user)) m w = Unit {0}
+CommandIsExact state (Some (requests.ListComponents folders)) m w = Unit {0}
+CommandIsExact state (Some (requests.TpmBoot firmware user locality banks)) m w = Unit {0}
 CommandIsExact state (Some (requests.Script file policy index)) m w = Unit {0}
 CommandIsExact state None m w = Unit {0}
 
@@ -41,6 +44,9 @@ RequestIsExact state (Some (requests.Script file policy index)) m w = LinesAreEx
 RequestIsExact state (Some (requests.Unseal token policy)) m w = UnsealIsExact state token m w
 RequestIsExact state (Some (requests.Enroll token policy key literal bank)) m w = Unit {0}
 RequestIsExact state (Some (requests.TpmExtend pcr bytes)) m w = Unit {0}
+RequestIsExact state (Some (requests.Cel firmware user)) m w = Unit {0}
+RequestIsExact state (Some (requests.ListComponents folders)) m w = Unit {0}
+RequestIsExact state (Some (requests.TpmBoot firmware user locality banks)) m w = Unit {0}
 RequestIsExact state None m w = Unit {0}
 
 unfoldable pub RunIsExact : List (List ℕ) → Machine → World → Type 0

@@ -28,4 +28,7 @@ IsNoScript (Some (requests.Script file policy index)) = ⊥
 IsNoScript (Some (requests.Enroll token policy key literal bank)) = Unit {0}
 IsNoScript (Some (requests.Unseal token policy)) = Unit {0}
 IsNoScript (Some (requests.TpmExtend pcr bytes)) = Unit {0}
+IsNoScript (Some (requests.Cel firmware user)) = Unit {0}
+IsNoScript (Some (requests.ListComponents folders)) = Unit {0}
+IsNoScript (Some (requests.TpmBoot firmware user locality banks)) = Unit {0}
 IsNoScript None = Unit {0}

@@ -11,6 +11,8 @@ use Rattle.pcrlock_words.specs.Texts.{status_text}
 use Rattle.pcrlock_line.specs.Machine.{Machine}
 use Rattle.pcrlock_line.specs.Outcome.{Outcome, refused_line}
 use Rattle.hash_bank.specs.declared.bank.Bank.{Bank}
+use Rattle.pcrlock_read.specs.Cel.{cel_line}
+use Rattle.pcrlock_read.specs.ComponentLines.{list_components_line}
 use Rattle.pcrlock_tpm.specs.Extend.{tpm_extend_line}
 use Rattle.pcrlock_seal.specs.Enroll.{enroll_line}
 use Rattle.pcrlock_open.specs.Unseal.{unseal_line}
@@ -31,6 +33,9 @@ unfoldable pub command_line : List ℕ → Request → Machine → Outcome
 command_line state (requests.TpmExtend pcr bytes) m = if nat_le pcr 23 then tpm_extend_line state pcr bytes m else refused_line answers.BadWords m
 command_line state (requests.Enroll token policy key literal bank) m = enroll_outcome state token key literal bank m
 command_line state (requests.Unseal token policy) m = unseal_outcome state token m
+command_line state (requests.Cel firmware user) m = cel_line firmware user m
+command_line state (requests.ListComponents folders) m = list_components_line folders m
+command_line state (requests.TpmBoot firmware user locality banks) m = refused_line answers.BadWords m
 command_line state (requests.Script file policy index) m = refused_line answers.BadWords m
 
 -- what words do that spell a request, or none

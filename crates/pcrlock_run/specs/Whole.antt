@@ -61,6 +61,9 @@ run_request state (requests.Script file policy index) m = run_script state file 
 run_request state (requests.Enroll token policy key literal bank) m = alone (command_line state (requests.Enroll token policy key literal bank) m)
 run_request state (requests.Unseal token policy) m = alone (command_line state (requests.Unseal token policy) m)
 run_request state (requests.TpmExtend pcr bytes) m = alone (command_line state (requests.TpmExtend pcr bytes) m)
+run_request state (requests.Cel firmware user) m = alone (command_line state (requests.Cel firmware user) m)
+run_request state (requests.ListComponents folders) m = alone (command_line state (requests.ListComponents folders) m)
+run_request state (requests.TpmBoot firmware user locality banks) m = alone (command_line state (requests.TpmBoot firmware user locality banks) m)
 
 -- what words do that spell a request, or none
 abbrev pub run_spelled : List ℕ → Option Request → Machine → Whole

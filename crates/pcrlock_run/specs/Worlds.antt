@@ -28,6 +28,9 @@ abbrev pub command_world : List ℕ → Request → Machine → World → World
 command_world state (requests.TpmExtend pcr bytes) m w = if nat_le pcr 23 then by_state m.device m w (λ (live : Live) (v : World). extend_world pcr bytes live.state v) else w
 command_world state (requests.Enroll token policy key literal bank) m w = enrolled_world key literal bank m w
 command_world state (requests.Unseal token policy) m w = hashed_world (unseal_outcome state token m).hashed w
+command_world state (requests.Cel firmware user) m w = w
+command_world state (requests.ListComponents folders) m w = w
+command_world state (requests.TpmBoot firmware user locality banks) m w = w
 command_world state (requests.Script file policy index) m w = w
 
 -- the world after words that spell a request, or none
@@ -60,6 +63,9 @@ request_world state (requests.Script file policy index) m w = script_world state
 request_world state (requests.Enroll token policy key literal bank) m w = command_world state (requests.Enroll token policy key literal bank) m w
 request_world state (requests.Unseal token policy) m w = command_world state (requests.Unseal token policy) m w
 request_world state (requests.TpmExtend pcr bytes) m w = command_world state (requests.TpmExtend pcr bytes) m w
+request_world state (requests.Cel firmware user) m w = w
+request_world state (requests.ListComponents folders) m w = w
+request_world state (requests.TpmBoot firmware user locality banks) m w = command_world state (requests.TpmBoot firmware user locality banks) m w
 
 abbrev pub spelled_world : List ℕ → Option Request → Machine → World → World
 spelled_world state None m w = w

@@ -1,6 +1,9 @@
 //! The one place that goes by the kind of a request.
 ghost use Rattle.std.specs.Prelude.{◌≡◌, ℕ, Some, Option, List as Sequence, IfOk, IfErr};
+ghost use Rattle.tpm_device.specs.Stored.{Stored};
 ghost use Rattle.pcrlock_line.specs.Machine.{Machine, Tells};
+ghost use Rattle.pcrlock_read.specs.Cel.{cel_line};
+ghost use Rattle.pcrlock_read.specs.ComponentLines.{list_components_line};
 ghost use Rattle.pcrlock_line.specs.Outcome.{Gives};
 ghost use Rattle.pcrlock_line.specs.Stopped.{StandsAmong};
 ghost use Rattle.pcrlock_line.specs.Causes.{HasCauses};
@@ -10,10 +13,11 @@ ghost use Rattle.pcrlock_run.specs.Leaves.{Safe};
 use hash_bank::Bank;
 use pcrlock_line::{Reply, Stop};
 use pcrlock_open::unseal;
+use pcrlock_read::{cel, list_components};
 use pcrlock_seal::enroll;
 use pcrlock_tpm::tpm_extend;
 use pcrlock_words::{Answer, Request, WordsError, read_words};
-use pl_base::{Entropy, Files, Name, Small};
+use pl_base::{Entropy, Files, List, Name, Small};
 use std::alloc::Global;
 use tpm_device::Tpm;
 
@@ -66,6 +70,37 @@ fn unseal_token<F: Files, T: Tpm>(
     unseal(alloc, files, tpm, state, token)
 }
 
+/// Prints both logs.
+fn print_cel<F: Files>(
+    alloc: Global,
+    files: &mut F,
+    firmware: &Option<Name>,
+    user: &Option<Name>,
+) -> Result<Reply, Stop>
+    ensures causes { HasCauses (F.faults files.old, 0, 0, 0) (F.faults files.new, 0, 0, 0) result }
+    ensures told { (stored : Option Stored) (words : Option (Sequence (Sequence ℕ))) (m : Machine) → Tells (F.held files.old) stored words m
+        → IfOk result (λ reply. Gives (F.held files.new) stored words reply (cel_line firmware.now user.now m)) }
+    ensures stops { (stored : Option Stored) (words : Option (Sequence (Sequence ℕ))) (m : Machine) → Tells (F.held files.old) stored words m
+        → IfErr result (λ _. StandsAmong (F.held files.new) stored (cel_line firmware.now user.now m).stops) }
+{
+    cel(alloc, files, firmware.as_ref(), user.as_ref())
+}
+
+/// Prints the components of the folders.
+fn print_components<F: Files>(
+    alloc: Global,
+    files: &mut F,
+    folders: &List<Name>,
+) -> Result<Reply, Stop>
+    ensures causes { HasCauses (F.faults files.old, 0, 0, 0) (F.faults files.new, 0, 0, 0) result }
+    ensures told { (stored : Option Stored) (words : Option (Sequence (Sequence ℕ))) (m : Machine) → Tells (F.held files.old) stored words m
+        → IfOk result (λ reply. Gives (F.held files.new) stored words reply (list_components_line folders.now m)) }
+    ensures stops { (stored : Option Stored) (words : Option (Sequence (Sequence ℕ))) (m : Machine) → Tells (F.held files.old) stored words m
+        → IfErr result (λ _. StandsAmong (F.held files.new) stored (list_components_line folders.now m).stops) }
+{
+    list_components(alloc, files, folders.as_slice())
+}
+
 /// Runs the command of a request, where the TPM's state stands at the path. A script is no command of a
 /// script.
 #[tactic(auto, unfolding(crate::specs::Script::command_line))]
@@ -100,7 +135,12 @@ pub fn command<F: Files, T: Tpm, E: Entropy>(
             ..
         } => enroll_literal(alloc, state, files, tpm, entropy, token, key, *literal, *bank),
         Request::Unseal { token, .. } => unseal_token(alloc, state, files, tpm, token),
-        Request::Script { .. } => Ok(Reply::Refused(Answer::BadWords)),
+        Request::Cel {
+            firmware_log,
+            userspace_log,
+        } => print_cel(alloc, files, firmware_log, userspace_log),
+        Request::ListComponents { components } => print_components(alloc, files, components),
+        Request::TpmBoot { .. } | Request::Script { .. } => Ok(Reply::Refused(Answer::BadWords)),
     }
 }
 

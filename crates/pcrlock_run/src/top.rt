@@ -244,7 +244,12 @@ fn run_request<F: Files, T: Tpm, E: Entropy, O: Sink, R: Sink>(
         Request::Script { file, policy, .. } => {
             run_script(alloc, state, file, policy, files, tpm, entropy, out, err)
         }
-        Request::Enroll { .. } | Request::Unseal { .. } | Request::TpmExtend { .. } => {
+        Request::Cel { .. }
+        | Request::ListComponents { .. }
+        | Request::Enroll { .. }
+        | Request::Unseal { .. }
+        | Request::TpmBoot { .. }
+        | Request::TpmExtend { .. } => {
             run_alone(alloc, state, request, files, tpm, entropy, out, err)
         }
     }

@@ -3,8 +3,8 @@ use Rattle.pcrlock_line.specs.declared.reply.Reply.{Reply}
 use Rattle.pcrlock_line.specs.Outcome.{Outcome, Gives}
 use Rattle.pcrlock_line.specs.Stopped.{StandsAmong}
 use Rattle.pcrlock_run.specs.Leaves.{Safe}
-use Rattle.pcrlock_run.proofs.Widened.{beside_tpm, beside_entropy}
-use Rattle.pcrlock_run.proofs.Commands.{extends, enrolls, unseals, by_outcome}
+use Rattle.pcrlock_run.proofs.Widened.{beside_tpm, beside_entropy, beside_files}
+use Rattle.pcrlock_run.proofs.Commands.{extends, enrolls, unseals, prints, lists, by_outcome}
 use Rattle.pcrlock_run.proofs.command.command.Goals as goal
 
 pub returns-then-pcr-le23-clause-causes : goal.returns-then-pcr-le23-clause-causes
@@ -44,3 +44,29 @@ pub returns-in-Unseal-clause-stops : goal.returns-in-Unseal-clause-stops
 returns-in-Unseal-clause-stops g c = λ m tells. by_outcome _ _
     (λ (o : Outcome). IfErr c.unseal_token.result (λ _. StandsAmong (g.F.Files.held c.unseal_token.new.files) (g.T.Tpm.stored c.unseal_token.new.tpm) o.stops))
     (unseals c.args.state.now c.args.request.now _ _ m c.in-Unseal.is) (c.unseal_token.ensures.stops _ m tells)
+
+pub returns-in-Cel-clause-causes : goal.returns-in-Cel-clause-causes
+returns-in-Cel-clause-causes g c = beside_files _ _ _ _ _ c.print_cel.result c.print_cel.ensures.causes
+
+pub returns-in-Cel-clause-told : goal.returns-in-Cel-clause-told
+returns-in-Cel-clause-told g c = λ m tells safe. by_outcome _ _
+    (λ (o : Outcome). IfOk c.print_cel.result (λ (r : Reply). Gives (g.F.Files.held c.print_cel.new.files) (g.T.Tpm.stored c.args.tpm.now) (g.E.Entropy.words c.args.entropy.now) r o))
+    (prints c.args.state.now c.args.request.now _ _ m c.in-Cel.is) (c.print_cel.ensures.told _ _ m tells)
+
+pub returns-in-Cel-clause-stops : goal.returns-in-Cel-clause-stops
+returns-in-Cel-clause-stops g c = λ m tells. by_outcome _ _
+    (λ (o : Outcome). IfErr c.print_cel.result (λ _. StandsAmong (g.F.Files.held c.print_cel.new.files) (g.T.Tpm.stored c.args.tpm.now) o.stops))
+    (prints c.args.state.now c.args.request.now _ _ m c.in-Cel.is) (c.print_cel.ensures.stops _ _ m tells)
+
+pub returns-in-ListComponents-clause-causes : goal.returns-in-ListComponents-clause-causes
+returns-in-ListComponents-clause-causes g c = beside_files _ _ _ _ _ c.print_components.result c.print_components.ensures.causes
+
+pub returns-in-ListComponents-clause-told : goal.returns-in-ListComponents-clause-told
+returns-in-ListComponents-clause-told g c = λ m tells safe. by_outcome _ _
+    (λ (o : Outcome). IfOk c.print_components.result (λ (r : Reply). Gives (g.F.Files.held c.print_components.new.files) (g.T.Tpm.stored c.args.tpm.now) (g.E.Entropy.words c.args.entropy.now) r o))
+    (lists c.args.state.now c.args.request.now _ m c.in-ListComponents.is) (c.print_components.ensures.told _ _ m tells)
+
+pub returns-in-ListComponents-clause-stops : goal.returns-in-ListComponents-clause-stops
+returns-in-ListComponents-clause-stops g c = λ m tells. by_outcome _ _
+    (λ (o : Outcome). IfErr c.print_components.result (λ _. StandsAmong (g.F.Files.held c.print_components.new.files) (g.T.Tpm.stored c.args.tpm.now) o.stops))
+    (lists c.args.state.now c.args.request.now _ m c.in-ListComponents.is) (c.print_components.ensures.stops _ _ m tells)
