@@ -1,6 +1,10 @@
-//! Names that a TPM 2.0 gave.
-use crate::{CONTENT_SIZE, DEFINED_ATTRIBUTES, NvPublic, WRITTEN_ATTRIBUTES, index_name};
+//! Names that a TPM 2.0 gave, and each call of a table once.
+use crate::{
+    CONTENT_SIZE, DEFINED_ATTRIBUTES, DefineError, IndexTable, NvPublic, NvRefusal,
+    WRITTEN_ATTRIBUTES, index_name,
+};
 use hash_bank::{Bank, Digest};
+use pl_base::{List, Small};
 use std::test::Fail;
 
 // The policy of an index, and the digests in its Name before and after the first write, as a
@@ -30,5 +34,88 @@ fn names_are_those_of_a_tpm(rt: HostRuntime) -> Result<(), Fail> {
         };
         assert_eq!(rt; index_name(&public), Digest::from_hex(Bank::Sha256, name)?);
     }
+    Ok(())
+}
+
+#[test]
+fn an_index_is_defined_written_and_taken_away(rt: HostRuntime) -> Result<(), Fail> {
+    let alloc = rt.alloc();
+    let policy = Digest::from_hex(Bank::Sha256, POLICY)?;
+    let other = Digest::zeros(Bank::Sha256);
+    let short = Small::from_slice(&[5; 33]).ok_or("33 bytes")?;
+    let at = |handle| NvPublic {
+        handle,
+        attributes: DEFINED_ATTRIBUTES,
+        policy,
+        size: CONTENT_SIZE,
+    };
+    let mut table = IndexTable::new(alloc);
+    for handle in [0x0180_0100, 0x0100_0000, 0x01FF_FFFF] {
+        assert_eq!(rt; table.define(&at(handle)), Ok(()));
+    }
+    let refused = |why| Err(DefineError::Refused(why));
+    assert_eq!(rt; table.define(&at(0x0180_0100)), refused(NvRefusal::Defined));
+    assert_eq!(rt; table.define(&at(0x0200_0000)), refused(NvRefusal::Handle));
+    let handles = [0x0100_0000, 0x0180_0100, 0x01FF_FFFF];
+    for (index, handle) in table.entries().iter().zip(handles) {
+        assert_eq!(rt; index.public.handle, handle);
+    }
+    let handle = 0x0180_0100;
+    assert_eq!(rt; table.read(handle), Err(NvRefusal::Uninitialized));
+    assert_eq!(rt; table.written(handle), None);
+    let pin_refused = NvRefusal::PinRefused {
+        given: other,
+        index: policy,
+    };
+    assert_eq!(rt;
+        table.write_refusal(handle, &other, &short),
+        Some(pin_refused)
+    );
+    assert_eq!(rt;
+        table.write_refusal(handle, &policy, &short),
+        Some(NvRefusal::Size)
+    );
+    assert_eq!(rt;
+        table.write_refusal(5, &other, &short),
+        Some(NvRefusal::NotDefined)
+    );
+    Ok(())
+}
+
+#[test]
+fn a_table_of_one_is_written(rt: HostRuntime) -> Result<(), Fail> {
+    let alloc = rt.alloc();
+    let policy = Digest::from_hex(Bank::Sha256, POLICY)?;
+    let value = Small::from_slice(&[5; 34]).ok_or("34 bytes")?;
+    let handle = 0x0180_0100;
+    let public = NvPublic {
+        handle,
+        attributes: DEFINED_ATTRIBUTES,
+        policy,
+        size: CONTENT_SIZE,
+    };
+    let mut table = IndexTable::new(alloc);
+    assert_eq!(rt;
+        table.write(handle, &policy, &value, 1),
+        Err(NvRefusal::NotDefined)
+    );
+    assert_eq!(rt; table.undefine(handle), Err(NvRefusal::NotDefined));
+    if table.define(&public).is_err() {
+        return Err("no memory")?;
+    }
+    assert_eq!(rt; table.write(handle, &policy, &value, 7), Ok(()));
+    assert_eq!(rt; table.written(handle), Some(7));
+    assert_eq!(rt; table.read(handle), Ok(value));
+    let written = NvPublic {
+        attributes: WRITTEN_ATTRIBUTES,
+        ..public
+    };
+    assert_eq!(rt; table.public(handle), Ok(written));
+    assert_eq!(rt; table.undefine(handle), Ok(()));
+    assert_eq!(rt; table.entries().len(), 0);
+    assert_eq!(rt;
+        IndexTable::from_entries(List::new(alloc)).entries().len(),
+        0
+    );
     Ok(())
 }

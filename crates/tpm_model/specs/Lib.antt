@@ -18,4 +18,9 @@ pub mod Fits
 pub mod Fresh
 pub mod Binding
 pub mod World
+pub mod Strings
+pub mod Events
+pub mod Opening
+pub mod ValidTable
 pub mod Tied
+pub mod WholeTie
