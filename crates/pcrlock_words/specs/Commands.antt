@@ -3,21 +3,23 @@ use Rattle.std.specs.Prelude.{ℕ, Bool, true, false, ◌||◌, ◌&&◌, not, L
 use Rattle.std.specs.Str.{bytes_eq}
 use Rattle.pcrlock_words.specs.Options.{Entry, Given, given, accepted}
 use Rattle.pcrlock_words.specs.declared.command.Command.{Command}
-use Rattle.pcrlock_words.specs.declared.command.Command.TheVariants.{Script, Cel, ListComponents, Enroll, Unseal, TpmBoot, TpmExtend}
+use Rattle.pcrlock_words.specs.declared.command.Command.TheVariants.{Script, Log, Cel, ListComponents, Enroll, Unseal, TpmBoot, TpmExtend, TpmExec}
 
 -- the commands
 abbrev pub commands : List Command
-commands = Script ∷ Cel ∷ ListComponents ∷ Enroll ∷ Unseal ∷ TpmBoot ∷ TpmExtend ∷ []
+commands = Script ∷ Log ∷ Cel ∷ ListComponents ∷ Enroll ∷ Unseal ∷ TpmBoot ∷ TpmExtend ∷ TpmExec ∷ []
 
 -- the word that names a command
 abbrev pub name_of : Command → List ℕ
 name_of Script = codes "script"
+name_of Log = codes "log"
 name_of Cel = codes "cel"
 name_of ListComponents = codes "list-components"
 name_of Enroll = codes "enroll"
 name_of Unseal = codes "unseal"
 name_of TpmBoot = codes "tpm-boot"
 name_of TpmExtend = codes "tpm-extend"
+name_of TpmExec = codes "tpm-exec"
 
 -- whether a command may stand there: inside a script all but `script`, and outside each
 abbrev pub may_stand : Bool → Command → Bool
@@ -42,6 +44,8 @@ free name = record { name = name; is_needed = false }
 -- the table of each command's options
 abbrev pub table : Command → List Entry
 table Script = needed (codes "file") ∷ free (codes "policy") ∷ free (codes "index") ∷ []
+table Log =
+    free (codes "firmware-log") ∷ free (codes "userspace-log") ∷ free (codes "components") ∷ free (codes "bank") ∷ []
 table Cel = free (codes "firmware-log") ∷ free (codes "userspace-log") ∷ []
 table ListComponents = free (codes "components") ∷ []
 table Enroll =
@@ -50,6 +54,7 @@ table Unseal = needed (codes "token") ∷ free (codes "policy") ∷ []
 table TpmBoot =
     free (codes "firmware-log") ∷ free (codes "userspace-log") ∷ free (codes "locality") ∷ free (codes "banks") ∷ []
 table TpmExtend = needed (codes "pcr") ∷ free (codes "text") ∷ free (codes "hex") ∷ []
+table TpmExec = needed (codes "commands") ∷ []
 
 -- the options that the command `script` gives for each of its lines
 abbrev pub is_of_script : Entry → Bool

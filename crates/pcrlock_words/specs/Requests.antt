@@ -42,6 +42,14 @@ script_request options = do
   index ← defaulted index_of 0x01800100 (value_of (codes "index") options)
   Some (requests.Script file policy index)
 
+abbrev pub log_request : List Given → Option Request
+log_request options = do
+  firmware_log ← optional path_of (value_of (codes "firmware-log") options)
+  userspace_log ← optional path_of (value_of (codes "userspace-log") options)
+  components ← defaulted folders_of default_folders (value_of (codes "components") options)
+  bank ← defaulted bank_of Sha256 (value_of (codes "bank") options)
+  Some (requests.Log firmware_log userspace_log components bank)
+
 abbrev pub cel_request : List Given → Option Request
 cel_request options = do
   firmware_log ← optional path_of (value_of (codes "firmware-log") options)
@@ -82,14 +90,21 @@ tpm_extend_request options = do
   bytes ← extended_bytes (value_of (codes "text") options) (value_of (codes "hex") options)
   Some (requests.TpmExtend pcr bytes)
 
+abbrev pub tpm_exec_request : List Given → Option Request
+tpm_exec_request options = do
+  commands ← required path_of (value_of (codes "commands") options)
+  Some (requests.TpmExec commands)
+
 abbrev pub command_request : Option (List ℕ) → Command → List Given → Option Request
 command_request script_policy commands.Script options = script_request options
+command_request script_policy commands.Log options = log_request options
 command_request script_policy commands.Cel options = cel_request options
 command_request script_policy commands.ListComponents options = list_components_request options
 command_request script_policy commands.Enroll options = enroll_request script_policy options
 command_request script_policy commands.Unseal options = unseal_request script_policy options
 command_request script_policy commands.TpmBoot options = tpm_boot_request options
 command_request script_policy commands.TpmExtend options = tpm_extend_request options
+command_request script_policy commands.TpmExec options = tpm_exec_request options
 
 -- the request of a command and the words behind its name
 abbrev pub options_request : Option (List ℕ) → Command → List (List ℕ) → Option Request

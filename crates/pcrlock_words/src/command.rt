@@ -11,12 +11,14 @@ use std::alloc::{AllocError, Global};
 #[derive(Clone, Copy, Debug, PartialEq, Eq)]
 pub(crate) enum Command {
     Script,
+    Log,
     Cel,
     ListComponents,
     Enroll,
     Unseal,
     TpmBoot,
     TpmExtend,
+    TpmExec,
 }
 
 // The name of an option, which has to be given or may be left out. Each option has a value.
@@ -27,6 +29,13 @@ enum Entry {
 }
 
 static SCRIPT: [Entry; 3] = [Needed("file"), Free("policy"), Free("index")];
+
+static LOG: [Entry; 4] = [
+    Free("firmware-log"),
+    Free("userspace-log"),
+    Free("components"),
+    Free("bank"),
+];
 
 static CEL: [Entry; 2] = [Free("firmware-log"), Free("userspace-log")];
 
@@ -50,6 +59,8 @@ static TPM_BOOT: [Entry; 4] = [
 ];
 
 static TPM_EXTEND: [Entry; 3] = [Needed("pcr"), Free("text"), Free("hex")];
+
+static TPM_EXEC: [Entry; 1] = [Needed("commands")];
 
 impl Entry {
     // Whether the option stands with its command, inside a script or outside. Inside there are none of
@@ -77,14 +88,16 @@ impl Entry {
 
 impl Command {
     // Every command.
-    const ALL: [Command; 7] = [
+    const ALL: [Command; 9] = [
         Command::Script,
+        Command::Log,
         Command::Cel,
         Command::ListComponents,
         Command::Enroll,
         Command::Unseal,
         Command::TpmBoot,
         Command::TpmExtend,
+        Command::TpmExec,
     ];
 
     // The word that names the command.
@@ -93,12 +106,14 @@ impl Command {
     {
         match self {
             Command::Script => "script",
+            Command::Log => "log",
             Command::Cel => "cel",
             Command::ListComponents => "list-components",
             Command::Enroll => "enroll",
             Command::Unseal => "unseal",
             Command::TpmBoot => "tpm-boot",
             Command::TpmExtend => "tpm-extend",
+            Command::TpmExec => "tpm-exec",
         }
     }
 
@@ -133,12 +148,14 @@ impl Command {
     {
         match self {
             Command::Script => SCRIPT.as_slice(),
+            Command::Log => LOG.as_slice(),
             Command::Cel => CEL.as_slice(),
             Command::ListComponents => LIST_COMPONENTS.as_slice(),
             Command::Enroll => ENROLL.as_slice(),
             Command::Unseal => UNSEAL.as_slice(),
             Command::TpmBoot => TPM_BOOT.as_slice(),
             Command::TpmExtend => TPM_EXTEND.as_slice(),
+            Command::TpmExec => TPM_EXEC.as_slice(),
         }
     }
 

@@ -1,6 +1,6 @@
 ghost use Rattle.std.specs.Prelude.{option_copied};
 ghost use Rattle.pcrlock_words.specs.Readings.{Gives};
-ghost use Rattle.pcrlock_words.specs.Requests.{cel_request, command_request, enroll_request, line_request, list_components_request, options_request, request_of, script_request, tpm_boot_request, tpm_extend_request, unseal_request};
+ghost use Rattle.pcrlock_words.specs.Requests.{cel_request, command_request, enroll_request, line_request, list_components_request, log_request, options_request, request_of, script_request, tpm_boot_request, tpm_exec_request, tpm_extend_request, unseal_request};
 
 use crate::command::Command;
 use crate::error::WordsError;
@@ -23,12 +23,14 @@ use std::alloc::Global;
 /// | Command | Options |
 /// |---|---|
 /// | `script` | `--file`, and at will `--policy`, `--index` |
+/// | `log` | at will `--firmware-log`, `--userspace-log`, `--components`, `--bank` |
 /// | `cel` | at will `--firmware-log`, `--userspace-log` |
 /// | `list-components` | at will `--components` |
 /// | `enroll` | `--token`, `--literal`, and at will `--policy`, `--key`, `--bank` |
 /// | `unseal` | `--token`, and at will `--policy` |
 /// | `tpm-boot` | at will `--firmware-log`, `--userspace-log`, `--locality`, `--banks` |
 /// | `tpm-extend` | `--pcr`, and one of `--text` and `--hex` |
+/// | `tpm-exec` | `--commands` |
 ///
 /// `BadWords` comes exactly where the words are none of these, a value is none of its option's, a token
 /// path is the policy path in force, or a line of a script has the command `script` or the option
@@ -92,12 +94,14 @@ fn read_command(
 {
     match command {
         Command::Script => script(alloc, options),
+        Command::Log => log(alloc, options),
         Command::Cel => cel(alloc, options),
         Command::ListComponents => list_components(alloc, options),
         Command::Enroll => enroll(alloc, options, script_policy),
         Command::Unseal => unseal(alloc, options, script_policy),
         Command::TpmBoot => tpm_boot(alloc, options),
         Command::TpmExtend => tpm_extend(alloc, options),
+        Command::TpmExec => tpm_exec(alloc, options),
     }
 }
 
@@ -112,6 +116,22 @@ fn script(alloc: Global, options: &Options<'_>) -> Result<Request, WordsError>
         file,
         policy,
         index,
+    })
+}
+
+// The request of `log` with these options.
+fn log(alloc: Global, options: &Options<'_>) -> Result<Request, WordsError>
+    ensures { Gives result (log_request options.now) }
+{
+    let firmware_log = optional_path(alloc, options.value("firmware-log"))?;
+    let userspace_log = optional_path(alloc, options.value("userspace-log"))?;
+    let components = folders(alloc, options.value("components"))?;
+    let bank = bank_value(options.value("bank"))?;
+    Ok(Request::Log {
+        firmware_log,
+        userspace_log,
+        components,
+        bank,
     })
 }
 
@@ -193,4 +213,12 @@ fn tpm_extend(alloc: Global, options: &Options<'_>) -> Result<Request, WordsErro
     let pcr = pcr_value(options.value("pcr"))?;
     let bytes = extended(alloc, options.value("text"), options.value("hex"))?;
     Ok(Request::TpmExtend { pcr, bytes })
+}
+
+// The request of `tpm-exec` with these options.
+fn tpm_exec(alloc: Global, options: &Options<'_>) -> Result<Request, WordsError>
+    ensures { Gives result (tpm_exec_request options.now) }
+{
+    let commands = required_path(alloc, options.value("commands"))?;
+    Ok(Request::TpmExec { commands })
 }

@@ -14,6 +14,15 @@ pub enum Request {
         policy: Name,
         index: u32,
     },
+    /// Prints the records of both logs with the components that explain them, the PCRs in `bank` as both
+    /// logs replay them and as the TPM has them. The components are those of the folders `components`, 1
+    /// to 16, the first on top.
+    Log {
+        firmware_log: Option<Name>,
+        userspace_log: Option<Name>,
+        components: List<Name>,
+        bank: Bank,
+    },
     /// Prints the records of the firmware log and of the userspace log, each at the path given or else at
     /// its default.
     Cel {
@@ -50,5 +59,9 @@ pub enum Request {
     TpmExtend {
         pcr: u8,
         bytes: List<u8>,
+    },
+    /// Gives the TPM the commands of the file `commands`, line by line.
+    TpmExec {
+        commands: Name,
     },
 }

@@ -25,7 +25,7 @@ const LINES: [(&str, &str); 9] = [
 ];
 
 // Words outside a script, parted by bars, and the request that they spell.
-const SPELLED: [(&str, &str); 32] = [
+const SPELLED: [(&str, &str); 36] = [
     ("state|script|--file|f", "script f pcrlock.policy 01800100"),
     (
         "state|script|--index=01FFffff|--policy|p|--file|f",
@@ -34,6 +34,16 @@ const SPELLED: [(&str, &str); 32] = [
     (
         "state|script|--file=pcrlock.policy|--index|01000000",
         "script pcrlock.policy pcrlock.policy 01000000",
+    ),
+    ("state|log|--components|c,d", "log ? ? c d Sha256"),
+    (
+        "state|log|--bank=sha384|--userspace-log|u|--firmware-log|f|--components=c",
+        "log f u c Sha384",
+    ),
+    ("state|tpm-exec|--commands|c d", "tpm-exec c d"),
+    (
+        "state|tpm-exec|--commands=--commands",
+        "tpm-exec --commands",
     ),
     ("state|cel", "cel ? ?"),
     ("state|cel|--userspace-log|u", "cel ? u"),
@@ -118,7 +128,7 @@ const SPELLED: [(&str, &str); 32] = [
 ];
 
 // Words that are outside the set, outside a script.
-const REFUSED: [&str; 100] = [
+const REFUSED: [&str; 107] = [
     "",
     "state",
     "state|",
@@ -138,6 +148,13 @@ const REFUSED: [&str; 100] = [
     "state|help|unseal",
     "state|-V",
     "state|version",
+    "state|log|--banks|sha256",
+    "state|log|--bank|sha256,sha384",
+    "state|log|--joint",
+    "state|tpm-exec",
+    "state|tpm-exec|--commands",
+    "state|tpm-exec|--commands=",
+    "state|tpm-exec|--command|c",
     "state|cel|-",
     "state|cel|--",
     "state|cel|--=f",
@@ -292,6 +309,25 @@ fn spelled(alloc: Global, request: &Request) -> Result<String, Fail> {
             let (token, policy) = (token.text(), policy.text());
             let pcr = literal.ok_or("no literal")?;
             Ok(format!(in alloc; "enroll {token} {policy} {key} {pcr} {bank:?}")?)
+        }
+        Request::Log {
+            firmware_log,
+            userspace_log,
+            components,
+            bank,
+        } => {
+            let (firmware, userspace) = (shown(firmware_log), shown(userspace_log));
+            let mut text = format!(in alloc; "log {firmware} {userspace}")?;
+            for folder in components.as_slice() {
+                text.push(' ')?;
+                text.push_str(folder.text())?;
+            }
+            text.push_str(format!(in alloc; " {bank:?}")?.as_str())?;
+            Ok(text)
+        }
+        Request::TpmExec { commands } => {
+            let commands = commands.text();
+            Ok(format!(in alloc; "tpm-exec {commands}")?)
         }
         Request::Cel {
             firmware_log,

@@ -4,7 +4,7 @@ use Rattle.clap.specs.Kinds.{HasKind}
 use Rattle.clap.specs.Words.{HasMatchesOf, app_of, fault_of, is_simple_and_free, kind_of}
 use Rattle.clap.proofs.WalkLemmas.{list_any-map}
 use Rattle.pcrlock_words.specs.declared.command.Command.{Command}
-use Rattle.pcrlock_words.specs.declared.command.Command.TheVariants.{Script, Cel, ListComponents, Enroll, Unseal, TpmBoot, TpmExtend}
+use Rattle.pcrlock_words.specs.declared.command.Command.TheVariants.{Script, Log, Cel, ListComponents, Enroll, Unseal, TpmBoot, TpmExtend, TpmExec}
 use Rattle.pcrlock_words.specs.Commands.{options_for, options_of}
 use Rattle.pcrlock_words.specs.Options.{is_known}
 use Rattle.pcrlock_words.specs.Parser.{is_stray, parser_for, refusal_of}
@@ -17,19 +17,23 @@ use Rattle.pcrlock_words.proofs.options.Options.read.Goals as goal
 -- each option has a name
 named : (within : Bool) (command : Command) → is_known (options_of within command) [] ≡ false
 named true Script = refl
+named true Log = refl
 named true Cel = refl
 named true ListComponents = refl
 named true Enroll = refl
 named true Unseal = refl
 named true TpmBoot = refl
 named true TpmExtend = refl
+named true TpmExec = refl
 named false Script = refl
+named false Log = refl
 named false Cel = refl
 named false ListComponents = refl
 named false Enroll = refl
 named false Unseal = refl
 named false TpmBoot = refl
 named false TpmExtend = refl
+named false TpmExec = refl
 
 abbrev texts : List (Bor (List ℕ)) → List (List ℕ)
 texts = map (λ word. word.now)
