@@ -14,3 +14,6 @@ pub use error::MatchError;
 pub use explaining::explain;
 pub use lacking::{RecordPlace, first_lacking};
 pub use listing::listed_by;
+
+#[cfg(test)]
+mod tests;
