@@ -64,6 +64,8 @@ grows_command state (requests.Unseal token policy) m w = grows_hashed w (unseal_
 grows_command state (requests.Cel firmware user) m w = λ x h. h
 grows_command state (requests.ListComponents folders) m w = λ x h. h
 grows_command state (requests.TpmBoot firmware user locality banks) m w = λ x h. h
+grows_command state (requests.Log firmware user folders bank) m w = λ x h. h
+grows_command state (requests.TpmExec commands) m w = λ x h. h
 grows_command state (requests.Script file policy index) m w = λ x h. h
 
 grows_answered : (state : List ℕ) (o : Option Request) (m : Machine) (w : World) → Grows w (answered_world state o m w)
@@ -95,6 +97,8 @@ command_exact state (Some (requests.TpmExtend pcr bytes)) m w t safe = tt
 command_exact state (Some (requests.Cel firmware user)) m w t safe = tt
 command_exact state (Some (requests.ListComponents folders)) m w t safe = tt
 command_exact state (Some (requests.TpmBoot firmware user locality banks)) m w t safe = tt
+command_exact state (Some (requests.Log firmware user folders bank)) m w t safe = tt
+command_exact state (Some (requests.TpmExec commands)) m w t safe = tt
 command_exact state (Some (requests.Script file policy index)) m w t safe = tt
 command_exact state None m w t safe = tt
 
@@ -120,6 +124,8 @@ request_exact state (Some (requests.TpmExtend pcr bytes)) m w t safe = tt
 request_exact state (Some (requests.Cel firmware user)) m w t safe = tt
 request_exact state (Some (requests.ListComponents folders)) m w t safe = tt
 request_exact state (Some (requests.TpmBoot firmware user locality banks)) m w t safe = tt
+request_exact state (Some (requests.Log firmware user folders bank)) m w t safe = tt
+request_exact state (Some (requests.TpmExec commands)) m w t safe = tt
 request_exact state None m w t safe = tt
 
 pub run_exact : (words : List (List ℕ)) (m : Machine) (w : World) → IsTied m.device w → Safe (run_world words m w).hashed → RunIsExact words m w

@@ -61,6 +61,8 @@ command_first held stored state (requests.Unseal token policy) m at = unsealed_f
 command_first held stored state (requests.Cel firmware user) m at = inl at
 command_first held stored state (requests.ListComponents folders) m at = inl at
 command_first held stored state (requests.TpmBoot firmware user locality banks) m at = inl at
+command_first held stored state (requests.Log firmware user folders bank) m at = inl at
+command_first held stored state (requests.TpmExec commands) m at = inl at
 command_first held stored state (requests.Script file policy index) m at = inl at
 
 answered_first : (held : Option FileMap) (stored : Option Stored) (state : List ℕ) (o : Option Request) (m : Machine) → StandsAt held stored m → StandsAmong held stored (answered state o m).stops
@@ -100,6 +102,8 @@ request_first held stored state (requests.TpmExtend pcr bytes) m at = command_fi
 request_first held stored state (requests.Cel firmware user) m at = command_first held stored state (requests.Cel firmware user) m at
 request_first held stored state (requests.ListComponents folders) m at = command_first held stored state (requests.ListComponents folders) m at
 request_first held stored state (requests.TpmBoot firmware user locality banks) m at = command_first held stored state (requests.TpmBoot firmware user locality banks) m at
+request_first held stored state (requests.Log firmware user folders bank) m at = command_first held stored state (requests.Log firmware user folders bank) m at
+request_first held stored state (requests.TpmExec commands) m at = command_first held stored state (requests.TpmExec commands) m at
 
 pub spelled_first : (held : Option FileMap) (stored : Option Stored) (draws : Option (List (List ℕ))) (state : List ℕ) (o : Option Request) (m : Machine) → Tells held stored draws m → StandsAmong held stored (run_spelled state o m).stops
 spelled_first held stored draws state None m tells = inl (stands held stored draws m tells)

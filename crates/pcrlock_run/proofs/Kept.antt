@@ -88,6 +88,8 @@ command_kept state (requests.Unseal token policy) m w t = unsealed_kept state to
 command_kept state (requests.Cel firmware user) m w t = t
 command_kept state (requests.ListComponents folders) m w t = t
 command_kept state (requests.TpmBoot firmware user locality banks) m w t = t
+command_kept state (requests.Log firmware user folders bank) m w t = t
+command_kept state (requests.TpmExec commands) m w t = t
 command_kept state (requests.Script file policy index) m w t = t
 
 answered_kept : (state : List ℕ) (o : Option Request) (m : Machine) (w : World) → IsTied m.device w → IsTied (answered state o m).after.device (answered_world state o m w)
@@ -132,6 +134,8 @@ request_kept state (requests.TpmExtend pcr bytes) m w t = command_kept state (re
 request_kept state (requests.Cel firmware user) m w t = command_kept state (requests.Cel firmware user) m w t
 request_kept state (requests.ListComponents folders) m w t = command_kept state (requests.ListComponents folders) m w t
 request_kept state (requests.TpmBoot firmware user locality banks) m w t = command_kept state (requests.TpmBoot firmware user locality banks) m w t
+request_kept state (requests.Log firmware user folders bank) m w t = command_kept state (requests.Log firmware user folders bank) m w t
+request_kept state (requests.TpmExec commands) m w t = command_kept state (requests.TpmExec commands) m w t
 
 spelled_kept : (state : List ℕ) (o : Option Request) (m : Machine) (w : World) → IsTied m.device w
     → IsTied (run_spelled state o m).after.device (spelled_world state o m w)

@@ -47,4 +47,6 @@ command_last held stored state (requests.Unseal token policy) m = unsealed_last 
 command_last held stored state (requests.Cel firmware user) m = λ at. inl at
 command_last held stored state (requests.ListComponents folders) m = λ at. inl at
 command_last held stored state (requests.TpmBoot firmware user locality banks) m = λ at. inl at
+command_last held stored state (requests.Log firmware user folders bank) m = λ at. inl at
+command_last held stored state (requests.TpmExec commands) m = λ at. inl at
 command_last held stored state (requests.Script file policy index) m = λ at. inl at

@@ -75,6 +75,8 @@ alone_request state (requests.TpmExtend pcr bytes) m none = refl
 alone_request state (requests.Cel firmware user) m none = refl
 alone_request state (requests.ListComponents folders) m none = refl
 alone_request state (requests.TpmBoot firmware user locality banks) m none = refl
+alone_request state (requests.Log firmware user folders bank) m none = refl
+alone_request state (requests.TpmExec commands) m none = refl
 
 -- words behind the path of a state
 pub spelled_words : (words : List (List ℕ)) (state : List ℕ) (m : Machine) → slice_get words 0 ≡ Some state → run_line words m ≡ run_spelled state (request_of words None) m

@@ -28,6 +28,8 @@ CommandIsExact state (Some (requests.TpmExtend pcr bytes)) m w = Unit {0}
 CommandIsExact state (Some (requests.Cel firmware user)) m w = Unit {0}
 CommandIsExact state (Some (requests.ListComponents folders)) m w = Unit {0}
 CommandIsExact state (Some (requests.TpmBoot firmware user locality banks)) m w = Unit {0}
+CommandIsExact state (Some (requests.Log firmware user folders bank)) m w = Unit {0}
+CommandIsExact state (Some (requests.TpmExec commands)) m w = Unit {0}
 CommandIsExact state (Some (requests.Script file policy index)) m w = Unit {0}
 CommandIsExact state None m w = Unit {0}
 
@@ -47,6 +49,8 @@ RequestIsExact state (Some (requests.TpmExtend pcr bytes)) m w = Unit {0}
 RequestIsExact state (Some (requests.Cel firmware user)) m w = Unit {0}
 RequestIsExact state (Some (requests.ListComponents folders)) m w = Unit {0}
 RequestIsExact state (Some (requests.TpmBoot firmware user locality banks)) m w = Unit {0}
+RequestIsExact state (Some (requests.Log firmware user folders bank)) m w = Unit {0}
+RequestIsExact state (Some (requests.TpmExec commands)) m w = Unit {0}
 RequestIsExact state None m w = Unit {0}
 
 unfoldable pub RunIsExact : List (List ℕ) → Machine → World → Type 0

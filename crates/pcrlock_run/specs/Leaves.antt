@@ -31,4 +31,6 @@ IsNoScript (Some (requests.TpmExtend pcr bytes)) = Unit {0}
 IsNoScript (Some (requests.Cel firmware user)) = Unit {0}
 IsNoScript (Some (requests.ListComponents folders)) = Unit {0}
 IsNoScript (Some (requests.TpmBoot firmware user locality banks)) = Unit {0}
+IsNoScript (Some (requests.Log firmware user folders bank)) = Unit {0}
+IsNoScript (Some (requests.TpmExec commands)) = Unit {0}
 IsNoScript None = Unit {0}

@@ -36,6 +36,8 @@ command_line state (requests.Unseal token policy) m = unseal_outcome state token
 command_line state (requests.Cel firmware user) m = cel_line firmware user m
 command_line state (requests.ListComponents folders) m = list_components_line folders m
 command_line state (requests.TpmBoot firmware user locality banks) m = refused_line answers.BadWords m
+command_line state (requests.Log firmware user folders bank) m = refused_line answers.BadWords m
+command_line state (requests.TpmExec commands) m = refused_line answers.BadWords m
 command_line state (requests.Script file policy index) m = refused_line answers.BadWords m
 
 -- what words do that spell a request, or none

@@ -64,6 +64,8 @@ run_request state (requests.TpmExtend pcr bytes) m = alone (command_line state (
 run_request state (requests.Cel firmware user) m = alone (command_line state (requests.Cel firmware user) m)
 run_request state (requests.ListComponents folders) m = alone (command_line state (requests.ListComponents folders) m)
 run_request state (requests.TpmBoot firmware user locality banks) m = alone (command_line state (requests.TpmBoot firmware user locality banks) m)
+run_request state (requests.Log firmware user folders bank) m = alone (command_line state (requests.Log firmware user folders bank) m)
+run_request state (requests.TpmExec commands) m = alone (command_line state (requests.TpmExec commands) m)
 
 -- what words do that spell a request, or none
 abbrev pub run_spelled : List ℕ → Option Request → Machine → Whole

@@ -31,6 +31,8 @@ command_world state (requests.Unseal token policy) m w = hashed_world (unseal_ou
 command_world state (requests.Cel firmware user) m w = w
 command_world state (requests.ListComponents folders) m w = w
 command_world state (requests.TpmBoot firmware user locality banks) m w = w
+command_world state (requests.Log firmware user folders bank) m w = w
+command_world state (requests.TpmExec commands) m w = w
 command_world state (requests.Script file policy index) m w = w
 
 -- the world after words that spell a request, or none
@@ -66,6 +68,8 @@ request_world state (requests.TpmExtend pcr bytes) m w = command_world state (re
 request_world state (requests.Cel firmware user) m w = w
 request_world state (requests.ListComponents folders) m w = w
 request_world state (requests.TpmBoot firmware user locality banks) m w = command_world state (requests.TpmBoot firmware user locality banks) m w
+request_world state (requests.Log firmware user folders bank) m w = command_world state (requests.Log firmware user folders bank) m w
+request_world state (requests.TpmExec commands) m w = command_world state (requests.TpmExec commands) m w
 
 abbrev pub spelled_world : List ℕ → Option Request → Machine → World → World
 spelled_world state None m w = w

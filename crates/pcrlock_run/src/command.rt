@@ -140,7 +140,10 @@ pub fn command<F: Files, T: Tpm, E: Entropy>(
             userspace_log,
         } => print_cel(alloc, files, firmware_log, userspace_log),
         Request::ListComponents { components } => print_components(alloc, files, components),
-        Request::TpmBoot { .. } | Request::Script { .. } => Ok(Reply::Refused(Answer::BadWords)),
+        Request::TpmBoot { .. }
+        | Request::Log { .. }
+        | Request::TpmExec { .. }
+        | Request::Script { .. } => Ok(Reply::Refused(Answer::BadWords)),
     }
 }
 

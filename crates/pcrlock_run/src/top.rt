@@ -249,6 +249,8 @@ fn run_request<F: Files, T: Tpm, E: Entropy, O: Sink, R: Sink>(
         | Request::Enroll { .. }
         | Request::Unseal { .. }
         | Request::TpmBoot { .. }
+        | Request::Log { .. }
+        | Request::TpmExec { .. }
         | Request::TpmExtend { .. } => {
             run_alone(alloc, state, request, files, tpm, entropy, out, err)
         }
