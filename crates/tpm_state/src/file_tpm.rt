@@ -6,7 +6,7 @@ ghost use Rattle.pl_base.specs.FileMap.{FileMap};
 ghost use Rattle.tpm_model.specs.declared.parts.Parts.{Parts};
 ghost use Rattle.tpm_model.specs.Fits.{fits};
 ghost use Rattle.tpm_model.specs.Fresh.{fresh_parts};
-ghost use Rattle.tpm_model.specs.Respond.{is_offered, respond};
+ghost use Rattle.tpm_model.specs.Respond.{respond};
 ghost use Rattle.tpm_model.specs.Rules.{HasRules};
 ghost use Rattle.tpm_device.specs.Stored.{Stored, Holds, BeginGives, ExecuteGives, ExecuteStores, stays_ready};
 ghost use Rattle.tpm_state.specs.declared.version.Version.TheVariants.{Two};
@@ -90,7 +90,6 @@ fn stored_state<F: Files>(files: &mut F, alloc: Global, path: &str) -> Result<St
 
 /// One step on a copy of a state: the answer and the next state.
 fn next_state(alloc: Global, live: &State, command: &Command) -> Result<(Response, State), Memory>
-    requires { is_offered command.now ≡ true }
     ensures value { IfOk result (λ next. next ≡ respond command.now live.now) }
     ensures fitting { IfOk result (λ next. fits command.now next.0 ≡ true) }
     ensures rules { IfOk result (λ next. HasRules next.1) }
@@ -146,12 +145,14 @@ impl<F: Files> Tpm for FileTpm<F> {
         ensures quiet { F.held self.new.files ≡ F.held self.old.files }
         ensures path { self.new.path ≡ self.old.path }
     {
-        let (live, answer) = match stored_state(&mut self.files, alloc, self.path.text()) {
-            Ok(state) => (Some(state), Ok(())),
-            Err(error) => (None, Err(error)),
-        };
-        self.live = live;
-        answer
+        self.live = None; // until a state is read
+        match stored_state(&mut self.files, alloc, self.path.text()) {
+            Ok(state) => {
+                self.live = Some(state);
+                Ok(())
+            }
+            Err(error) => Err(error),
+        }
     }
 
     fn is_ready(&self) -> bool {
@@ -159,8 +160,7 @@ impl<F: Files> Tpm for FileTpm<F> {
     }
 
     fn execute(&mut self, alloc: Global, command: &Command) -> Result<Response, ExecError>
-        requires readiness { is_some self.old.live ≡ true }
-        requires offered { is_offered command.now ≡ true }
+        requires { is_some self.old.live ≡ true }
         ensures cause { HasCause (F.faults self.old.files) (F.faults self.new.files) (result ≡ Err ExecError.Failed) }
         ensures fitting { IfOk result (λ answer. fits command.now answer ≡ true) }
         ensures readiness { is_some self.new.live ≡ stays_ready result }
