@@ -205,6 +205,16 @@ four_sized : (banks : Banks) (a b c d : List (List ℕ)) → map length a ≡ si
     → HasValues banks (((a ++ b) ++ c) ++ d)
 four_sized banks a b c d p q r s = map_four a b c d ∙ rw (p, q, r, s) refl
 
+joined : {p q r x a : List (List ℕ)} (b c d : List (List ℕ)) → p ≡ a → q ≡ p ++ b → r ≡ q ++ c → x ≡ r ++ d → x ≡ ((a ++ b) ++ c) ++ d
+joined b c d h i j k = k ∙ ap (λ (l : List (List ℕ)). l ++ d) (j ∙ ap (λ (l : List (List ℕ)). l ++ c) (i ∙ ap (λ (l : List (List ℕ)). l ++ b) h))
+
+values_joined : (banks : Banks) (bytes : List ℕ) (x : List (List ℕ) × List ℕ) (a b c d : List (List ℕ)) → x.0 ≡ ((a ++ b) ++ c) ++ d
+    → Takes bytes (flat_map digest_text a ++ (flat_map digest_text b ++ (flat_map digest_text c ++ flat_map digest_text d))) x.1 → HasValues banks (((a ++ b) ++ c) ++ d) → Taken values_text (λ pcrs. HasValues banks pcrs) bytes x
+values_joined banks bytes x a b c d whole taken sizes = record {
+  takes = subst (λ (l : List (List ℕ)). Takes bytes (values_text l) x.1) (sym whole) (subst (λ (text : List ℕ). Takes bytes text x.1) (sym (flat_four a b c d)) taken);
+  fits = subst (λ (l : List (List ℕ)). HasValues banks l) (sym whole) sizes;
+}
+
 pub values_takes : (all : ℕ) (banks : Banks) (bytes : List ℕ) (x : List (List ℕ) × List ℕ) → IsBytes bytes → values_at all banks bytes ≡ Ok x → Taken values_text (λ pcrs. HasValues banks pcrs) bytes x
 unfolding values_at
 values_takes all banks bytes x fits e =
@@ -215,16 +225,11 @@ values_takes all banks bytes x fits e =
     let b = bank_takes all banks.sha256 Sha256 p.value.0 p.value.1 q.value a.takes.rest_fits q.first in
     let c = bank_takes all banks.sha384 Sha384 q.value.0 q.value.1 r.value b.takes.rest_fits r.first in
     let d = bank_takes all banks.sha512 Sha512 r.value.0 r.value.1 x c.takes.rest_fits r.second in
-    let four = ((a.more ++ b.more) ++ c.more) ++ d.more in
-    let whole : x.0 ≡ four = d.whole ∙ ap (λ (l : List (List ℕ)). l ++ d.more) (c.whole ∙ ap (λ (l : List (List ℕ)). l ++ c.more) (b.whole ∙ ap (λ (l : List (List ℕ)). l ++ b.more) a.whole)) in
-    let taken : Takes bytes (flat_map digest_text a.more ++ (flat_map digest_text b.more ++ (flat_map digest_text c.more ++ flat_map digest_text d.more))) x.1 = Takes-then a.takes (Takes-then b.takes (Takes-then c.takes d.takes)) in
-    let sizes : HasValues banks four =
-    four_sized banks a.more b.more c.more d.more (sizes_from banks.sha1 20 a.more a.count a.fits) (sizes_from banks.sha256 32 b.more b.count b.fits)
-    (sizes_from banks.sha384 48 c.more c.count c.fits) (sizes_from banks.sha512 64 d.more d.count d.fits) in
-    record {
-      takes = subst (λ (l : List (List ℕ)). Takes bytes (values_text l) x.1) (sym whole) (subst (λ (text : List ℕ). Takes bytes text x.1) (sym (flat_four a.more b.more c.more d.more)) taken);
-      fits = subst (λ (l : List (List ℕ)). HasValues banks l) (sym whole) sizes;
-    }
+    values_joined banks bytes x a.more b.more c.more d.more
+    (joined b.more c.more d.more a.whole b.whole c.whole d.whole)
+    (Takes-then a.takes (Takes-then b.takes (Takes-then c.takes d.takes)))
+    (four_sized banks a.more b.more c.more d.more (sizes_from banks.sha1 20 a.more a.count a.fits) (sizes_from banks.sha256 32 b.more b.count b.fits)
+      (sizes_from banks.sha384 48 c.more c.count c.fits) (sizes_from banks.sha512 64 d.more d.count d.fits))
 
 values_four : (all : ℕ) (banks : Banks) (a b c d : List (List ℕ)) (rest : List ℕ) → Sized banks.sha1 20 a → Sized banks.sha256 32 b → Sized banks.sha384 48 c → Sized banks.sha512 64 d
     → values_at all banks (values_text (((a ++ b) ++ c) ++ d) ++ rest) ≡ Ok (((a ++ b) ++ c) ++ d, rest)
@@ -244,8 +249,7 @@ values_again all banks pcrs rest fits =
     let last = split_map pcrs ((sizes_if banks.sha1 20 ++ sizes_if banks.sha256 32) ++ sizes_if banks.sha384 48) (sizes_if banks.sha512 64) fits in
     let third = split_map last.ys (sizes_if banks.sha1 20 ++ sizes_if banks.sha256 32) (sizes_if banks.sha384 48) last.front in
     let first = split_map third.ys (sizes_if banks.sha1 20) (sizes_if banks.sha256 32) third.front in
-    let four = ((first.ys ++ first.zs) ++ third.zs) ++ last.zs in
-    let whole : pcrs ≡ four = last.whole ∙ ap (λ (l : List (List ℕ)). l ++ last.zs) (third.whole ∙ ap (λ (l : List (List ℕ)). l ++ third.zs) first.whole) in
+    let whole : pcrs ≡ ((first.ys ++ first.zs) ++ third.zs) ++ last.zs = last.whole ∙ ap (λ (l : List (List ℕ)). l ++ last.zs) (third.whole ∙ ap (λ (l : List (List ℕ)). l ++ third.zs) first.whole) in
     subst (λ (l : List (List ℕ)). values_at all banks (values_text l ++ rest) ≡ Ok (l, rest)) (sym whole)
     (values_four all banks first.ys first.zs third.zs last.zs rest (sizes_to banks.sha1 20 first.ys first.front) (sizes_to banks.sha256 32 first.zs first.back) (sizes_to banks.sha384 48 third.zs third.back) (sizes_to banks.sha512 64 last.zs last.back))
 

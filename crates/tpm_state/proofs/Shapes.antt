@@ -13,11 +13,11 @@ use Rattle.tpm_model.specs.declared.trail.TrailEntry.TheVariants.{Pcr, Or, Autho
 use Rattle.tpm_model.specs.declared.sessions.Session.{Session}
 use Rattle.tpm_model.specs.declared.object.Object.{Object}
 use Rattle.tpm_model.specs.declared.parts.Parts.{Parts}
-use Rattle.tpm_model.specs.Handles.{are_handles}
+use Rattle.nv_index.specs.Handles.{are_handles}
 use Rattle.tpm_model.specs.Trails.{digest_of_in, has_pcr_entry}
 use Rattle.tpm_model.specs.SessionRules.{is_noted_by, is_noted, agrees_with, is_sha256, is_read, are_reads, has_reads}
-use Rattle.tpm_model.specs.IndexRules.{is_numbered_within, is_counted, are_apart, has_attributes}
-use Rattle.tpm_model.specs.Shape.{HasShape, IsEntryShape, IsSessionShape, IsWrittenShape, IsIndexShape, IsObjectShape, has_written}
+use Rattle.nv_index.specs.Table.{has_written, is_numbered_within, is_counted, are_apart, has_attributes}
+use Rattle.tpm_model.specs.Shape.{HasShape, IsEntryShape, IsSessionShape, IsWrittenShape, IsIndexShape, IsObjectShape}
 use Rattle.tpm_model.specs.Rules.{HasRules}
 use Rattle.tpm_state.specs.declared.version.Version.{Version}
 use Rattle.tpm_state.specs.declared.version.Version.TheVariants.{One, Two}

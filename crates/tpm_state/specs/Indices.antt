@@ -3,7 +3,7 @@ use Rattle.std.specs.Prelude.{◌≡◌, ℕ, ◌^◌, ◌<◌, Bool, true, fals
 use Rattle.std.specs.Int.{w16, w32, to_be_bytes}
 use Rattle.nv_index.specs.declared.index.Index.{Index}
 use Rattle.nv_index.specs.declared.index.Written.{Written}
-use Rattle.tpm_model.specs.Shape.{has_written}
+use Rattle.nv_index.specs.Table.{has_written}
 use Rattle.tpm_state.specs.declared.error.DecodeError.{DecodeError}
 use Rattle.tpm_state.specs.Field.{◌>>=◌, bytes_at, number_at}
 

@@ -145,12 +145,14 @@ impl<F: Files> Tpm for FileTpm<F> {
         ensures quiet { F.held self.new.files ≡ F.held self.old.files }
         ensures path { self.new.path ≡ self.old.path }
     {
-        let (live, answer) = match stored_state(&mut self.files, alloc, self.path.text()) {
-            Ok(state) => (Some(state), Ok(())),
-            Err(error) => (None, Err(error)),
-        };
-        self.live = live;
-        answer
+        self.live = None; // until a state is read
+        match stored_state(&mut self.files, alloc, self.path.text()) {
+            Ok(state) => {
+                self.live = Some(state);
+                Ok(())
+            }
+            Err(error) => Err(error),
+        }
     }
 
     fn is_ready(&self) -> bool {

@@ -1,7 +1,7 @@
 //! NV indices.
 ghost use Rattle.std.specs.Prelude.{◌≡◌, ◌<◌, ◌≤◌, ◌^◌, ◌∷◌, [], ◌++◌, length, Option, OnOk, IfOk};
 ghost use Rattle.std.specs.List.{flat_map};
-ghost use Rattle.tpm_model.specs.Shape.{has_written as is_set};
+ghost use Rattle.nv_index.specs.Table.{has_written as is_set};
 ghost use Rattle.tpm_state.specs.Field.{Gives, repeat_at, counted_at, counted_text};
 ghost use Rattle.tpm_state.specs.Indices.{written_text, index_text, written_at, index_at};
 
