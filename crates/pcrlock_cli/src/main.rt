@@ -1,24 +1,14 @@
 //! The program `pcrlock`: the words of the process are run over the files of the system, its random
 //! words and its standard output and error, and the status is the exit status of the process. The TPM
-//! is a fresh one in memory, which ends with the process.
+//! is kept in the state file, whose path is the first word.
 #![tactic(auto)]
 
-use hash_bank::Banks;
 use pcrlock_run::run;
 use pl_base::{List, Memory, Name, RealEntropy, RealFiles, RealSink, Sink};
 use std::alloc::Global;
 use std::process::ExitCode;
 use std::{env, io};
-use tpm_device::SoftTpm;
-use tpm_model::State;
-
-/// The banks of the TPM.
-const ALL_BANKS: Banks = Banks {
-    sha1: true,
-    sha256: true,
-    sha384: true,
-    sha512: true,
-};
+use tpm_state::FileTpm;
 
 /// Why the words of the process can't be run.
 #[derive(Drop)]
@@ -74,6 +64,14 @@ fn words(rt: &HostRuntime) -> Result<List<Name>, Refusal> {
     Ok(words)
 }
 
+/// The path of the state file: the first word, or an empty one where there is none.
+fn state_path(alloc: Global, words: &[Name]) -> Result<Name, Memory> {
+    match words.first() {
+        Some(path) => path.copy(alloc),
+        None => Name::from_text(alloc, ""),
+    }
+}
+
 /// Runs the words of the process, and gives its exit status.
 fn run_process<O: Sink, R: Sink>(
     rt: &HostRuntime,
@@ -82,7 +80,8 @@ fn run_process<O: Sink, R: Sink>(
 ) -> Result<u8, Refusal> {
     let alloc = rt.alloc();
     let words = words(rt)?;
-    let mut tpm = SoftTpm::new(State::fresh(alloc, ALL_BANKS), List::new(alloc));
+    let path = state_path(alloc, words.as_slice())?;
+    let mut tpm = FileTpm::new(RealFiles::new(rt), path);
     let mut files = RealFiles::new(rt);
     let mut entropy = RealEntropy::new(rt);
     Ok(run(
