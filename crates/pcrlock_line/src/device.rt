@@ -89,6 +89,8 @@ pub fn ask<T: Tpm>(alloc: Global, tpm: &mut T, command: &Command) -> Result<Resp
     ensures causes { HasCauses (0, 0, T.faults tpm.old, 0) (0, 0, T.faults tpm.new, 0) result }
     ensures told { (s : Parts) → T.live tpm.old ≡ Some s → T.stored tpm.old ≡ Some (Holds s)
         → IfOk result (λ response. IsAnswered command.now s response (T.ready tpm.new) (T.live tpm.new) (T.stored tpm.new)) }
+    // A device that answered goes on, also where it tells nothing.
+    ensures readiness { IfOk result (λ _. T.ready tpm.new ≡ true) }
     ensures rules { (s : Parts) → T.live tpm.old ≡ Some s → HasRules s → IfSome (T.live tpm.new) HasRules }
     ensures stops { (s : Parts) → T.live tpm.old ≡ Some s → T.stored tpm.old ≡ Some (Holds s)
         → IfErr result (λ _. IsStopped command.now s (T.stored tpm.new)) }

@@ -1,1 +1,3 @@
 pub mod Extend
+pub mod Running
+pub mod Boot
