@@ -1,5 +1,5 @@
--- What a client takes from the TPM's answers. An answer that doesn't fit its command counts as want
--- of memory.
+-- What a client takes from the TPM's answers. An answer that no state gives at that place of a walk
+-- counts as want of memory.
 use Rattle.std.specs.Prelude.{ℕ, ◌==◌, if◌then◌else◌, List, Result, Ok, Err}
 use Rattle.tpm_model.specs.declared.response.Response.{Response}
 use Rattle.tpm_model.specs.declared.response.Response.TheVariants as answer

@@ -6,6 +6,8 @@ mod error;
 mod literal;
 mod responses;
 mod steps;
+#[cfg(test)]
+mod tests;
 
 pub use crate::error::UnsealError;
 pub use crate::literal::unseal_literal;

@@ -1,5 +1,5 @@
 //! The commands of a walk, each with what a client takes from its answer.
-ghost use Rattle.std.specs.Prelude.{◌≡◌, ℕ, ◌<◌, ◌≤◌, ◌^◌, true, List, Option, Some, Ok, Err, IfErr};
+ghost use Rattle.std.specs.Prelude.{◌≡◌, ℕ, ◌<◌, ◌≤◌, ◌^◌, true, List, Option, Some, Ok, Err, IfOk, IfErr};
 ghost use Rattle.pl_base.specs.Faults.{HasCause};
 ghost use Rattle.policy_digest.specs.Policies.{IsPolicyHash};
 ghost use Rattle.policy_file.specs.TokenText.{IsLiteral};
@@ -7,6 +7,7 @@ ghost use Rattle.tpm_device.specs.Stored.{Holds};
 ghost use Rattle.tpm_model.specs.declared.parts.Parts.{Parts};
 ghost use Rattle.tpm_model.specs.declared.sessions.Session.{Session};
 ghost use Rattle.tpm_model.specs.Pcrs.{pcr_of};
+ghost use Rattle.tpm_model.specs.Fits.{fits};
 ghost use Rattle.tpm_model.specs.Respond.{respond};
 ghost use Rattle.tpm_model.specs.Rules.{HasRules};
 ghost use Rattle.tpm_model.specs.Sessions.{object_at};
@@ -30,6 +31,7 @@ fn ask<T: Tpm>(alloc: Global, tpm: &mut T, command: &Command) -> Result<Response
     ensures cause { HasCause (T.faults tpm.old) (T.faults tpm.new) (result ≡ Err UnsealError.Failed) }
     ensures never { IfErr result IsNeverForeseen }
     ensures readiness { answers result ≡ true → T.ready tpm.new ≡ true }
+    ensures fitting { IfOk result (λ answer. fits command.now answer ≡ true) }
     ensures told { (s : Parts) → T.live tpm.old ≡ Some s → T.ready tpm.old ≡ true
         → Told (Ok (respond command.now s).0) (respond command.now s).1 result (T.ready tpm.new) (T.live tpm.new) }
     ensures stored { (base s : Parts) → T.live tpm.old ≡ Some s → T.ready tpm.old ≡ true → T.stored tpm.old ≡ Some (Holds s)
@@ -55,7 +57,7 @@ pub(crate) fn start<T: Tpm>(alloc: Global, tpm: &mut T, hash: Bank) -> Result<u3
         → Stores s (start_leaves hash s) result (T.stored tpm.new) }
 {
     let response = ask(alloc, tpm, &Command::StartSession { hash })?;
-    started(&response)
+    started(hash, &response)
 }
 
 /// The mask of one PCR.
@@ -97,7 +99,7 @@ pub(crate) fn bind<T: Tpm>(
             pcrs,
         },
     )?;
-    bound(&response)
+    bound(session, literal.bank, pcrs, &response)
 }
 
 /// Reads the session's digest.
@@ -116,7 +118,7 @@ pub(crate) fn read_digest<T: Tpm>(
         → T.stored tpm.old ≡ Some (Holds (with_open x s)) → Stores s (with_open x s) result (T.stored tpm.new) }
 {
     let response = ask(alloc, tpm, &Command::PolicyGetDigest { session })?;
-    session_digest(&response)
+    session_digest(session, &response)
 }
 
 /// Reads the value of the literal's PCR, while a session is open.
@@ -143,7 +145,7 @@ pub(crate) fn read_value<T: Tpm>(
             pcr: literal.pcr,
         },
     )?;
-    pcr_value(&response)
+    pcr_value(literal.bank, literal.pcr, &response)
 }
 
 /// Unseals the object on the session, which looked at PCRs since the last extend.
@@ -170,7 +172,7 @@ pub(crate) fn unseal<T: Tpm>(
             handle: object,
         },
     )?;
-    unsealed(&response, object)
+    unsealed(session, object, &response)
 }
 
 /// Ends the session.
@@ -185,5 +187,5 @@ pub(crate) fn flush<T: Tpm>(alloc: Global, tpm: &mut T, session: u32) -> Result<
         → T.stored tpm.old ≡ Some (Holds (with_open x s)) → Stores s (closed s) result (T.stored tpm.new) }
 {
     let response = ask(alloc, tpm, &Command::FlushSession { session })?;
-    ended(&response)
+    ended(session, &response)
 }
