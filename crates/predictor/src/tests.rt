@@ -140,30 +140,28 @@ fn windows_are_read(rt: HostRuntime) -> Result<(), Fail> {
     Ok(())
 }
 
+/// A refusal as text.
+fn foresee_error_text(alloc: Global, error: ForeseeError) -> Result<String, AllocError> {
+    match error {
+        ForeseeError::NoDigest {
+            component,
+            variant,
+            place,
+        } => format!(in alloc; "no digest {component} {variant} {place}"),
+        ForeseeError::TooMany(count) => format!(in alloc; "too many {count}"),
+        ForeseeError::Memory => String::from_str(alloc, "memory"),
+    }
+}
+
 /// What `foresee` answers, each value by its digits.
 fn foreseen(alloc: Global, tree: &Tree, window: &Window, pcr: u8) -> Result<String, Fail> {
     if pcr > 23 {
         return Err("no such PCR".into());
     }
-    let mut text = String::new(alloc);
     match foresee(alloc, tree, window, pcr, BANK, 0) {
-        Ok(values) => {
-            for value in values.as_slice() {
-                text.push_str(value.to_string(alloc)?.as_str())?;
-                text.push_str(" ")?;
-            }
-        }
-        Err(
-            ForeseeError::NoDigest {
-                component,
-                variant,
-                place,
-            },
-        ) => text = format!(in alloc; "no digest {component} {variant} {place}")?,
-        Err(ForeseeError::TooMany(count)) => text = format!(in alloc; "too many {count}")?,
-        Err(ForeseeError::Memory) => text.push_str("memory")?,
+        Ok(values) => Ok(state_text(alloc, values.as_slice())?),
+        Err(error) => Ok(foresee_error_text(alloc, error)?),
     }
-    Ok(text)
 }
 
 /// The values after the letters of each word, a dash for none; but a refusal as it is.
@@ -254,7 +252,7 @@ fn values_are_limited(rt: HostRuntime) -> Result<(), Fail> {
     let many = many_variants(alloc, 64)?;
     let fewer = many_variants(alloc, 57)?;
     let table = [
-        (many.as_str(), "q|r|s|t|u|v|w|x", "800-", 512, ""),
+        (many.as_str(), "q|r|s|t|u|v|w|x", "800-", 512 * 65, ""),
         (
             many.as_str(),
             "q|r|s|t|u|v|w|x",
@@ -262,7 +260,7 @@ fn values_are_limited(rt: HostRuntime) -> Result<(), Fail> {
             0,
             "too many 2",
         ),
-        (many.as_str(), "q|r|s|t|u|v|w|x", "600-:700-", 65, ""),
+        (many.as_str(), "q|r|s|t|u|v|w|x", "600-:700-", 65 * 65, ""),
         (many.as_str(), "q|r|s|t|u|v|w|x|y", "800-", 0, "too many 2"),
         (
             fewer.as_str(),
@@ -271,7 +269,7 @@ fn values_are_limited(rt: HostRuntime) -> Result<(), Fail> {
             0,
             "too many 2",
         ),
-        (fewer.as_str(), "q|r|s|t|u|v|w", "700-:800-", 456, ""),
+        (fewer.as_str(), "q|r|s|t|u|v|w", "700-:800-", 456 * 65, ""),
     ];
     for (first, second, location, count, refusal) in &table {
         let tree = tree_of(
@@ -279,9 +277,12 @@ fn values_are_limited(rt: HostRuntime) -> Result<(), Fail> {
             format!(in alloc; "650-a={first} 720-b={second} 900-c=a")?.as_str(),
         )?;
         let window = Window::read(alloc, location)?;
-        match foresee(alloc, &tree, &window, 4, BANK, 0) {
-            Ok(values) => assert_eq!(rt; values.len(), *count),
-            Err(_) => assert_eq!(rt; foreseen(alloc, &tree, &window, 4)?.as_str(), *refusal),
+        let answer = foreseen(alloc, &tree, &window, 4)?;
+        if refusal.is_empty() {
+            // 64 digits a value and a blank
+            assert_eq!(rt; answer.len(), *count);
+        } else {
+            assert_eq!(rt; answer.as_str(), *refusal);
         }
     }
     Ok(())
@@ -304,8 +305,8 @@ fn equal_choices_have_one_value(rt: HostRuntime) -> Result<(), Fail> {
         foreseen(alloc, &tree, &window, 4)?.as_str(),
         expected.as_str()
     );
-    let joint = foresee_joint(alloc, &tree, &window, 1 << 4 | 1 << 11, BANK, 0)?;
-    assert_eq!(rt; joint.len(), 1);
+    // two values of 64 digits, a blank behind each, and brackets
+    assert_eq!(rt; joint_text(alloc, &tree, &window)?.len(), 132);
     Ok(())
 }
 
@@ -319,16 +320,33 @@ fn state_text(alloc: Global, state: &[Digest]) -> Result<String, AllocError> {
     Ok(text)
 }
 
+/// What `foresee_joint` answers of PCR 4 and 11, each state in brackets by its values' digits.
+fn joint_text(alloc: Global, tree: &Tree, window: &Window) -> Result<String, Fail> {
+    let mut text = String::new(alloc);
+    match foresee_joint(alloc, tree, window, 1 << 4 | 1 << 11, BANK, 0) {
+        Ok(states) => {
+            for state in states.as_slice() {
+                let state = state_text(alloc, state.as_slice())?;
+                text.push_str(format!(in alloc; "({})", state.as_str())?.as_str())?;
+            }
+            Ok(text)
+        }
+        Err(error) => Ok(foresee_error_text(alloc, error)?),
+    }
+}
+
 /// States of PCR 4 and 11 as `letters/letters`, a dash for no letter.
 fn expected_states(alloc: Global, words: &str) -> Result<String, Fail> {
     let mut text = String::new(alloc);
     for word in words.split(' ') {
         let (four, eleven) = word.split_once('/').ok_or("no state")?;
+        text.push_str("(")?;
         for (pcr, letters) in [(4, four), (11, eleven)] {
             let letters = if letters == "-" { "" } else { letters };
             text.push_str(value_of(alloc, pcr, letters)?.as_str())?;
             text.push_str(" ")?;
         }
+        text.push_str(")")?;
     }
     Ok(text)
 }
@@ -350,31 +368,19 @@ fn states_of_two_pcrs_are_foreseen(rt: HostRuntime) -> Result<(), Fail> {
     for (components, location, words) in &table {
         let tree = tree_of(alloc, components)?;
         let window = Window::read(alloc, location)?;
-        let states = foresee_joint(alloc, &tree, &window, 1 << 4 | 1 << 11, BANK, 0)?;
-        let mut text = String::new(alloc);
-        for state in states.as_slice() {
-            text.push_str(state_text(alloc, state.as_slice())?.as_str())?;
-        }
         let expected = expected_states(alloc, words)?;
-        assert_eq!(rt; text.as_str(), expected.as_str(), "{components} {location}");
+        assert_eq!(rt;
+            joint_text(alloc, &tree, &window)?.as_str(),
+            expected.as_str(),
+            "{components} {location}"
+        );
     }
     let tree = tree_of(alloc, "1=A1")?;
     let window = Window::read(alloc, "2")?;
-    match foresee_joint(alloc, &tree, &window, 1 << 11, BANK, 0) {
-        Ok(states) => assert_eq!(rt; states.len(), 1),
-        Err(_) => return Err("PCR 11 has its digests".into()),
-    }
-    match foresee_joint(alloc, &tree, &window, 1 << 11 | 1 << 4, BANK, 0) {
-        Ok(_) => return Err("PCR 4 lacks one".into()),
-        Err(error) => assert_eq!(rt;
-            error,
-            ForeseeError::NoDigest {
-                component: 0,
-                variant: 0,
-                place: 1
-            }
-        ),
-    }
+    assert_eq!(rt;
+        joint_text(alloc, &tree, &window)?.as_str(),
+        "no digest 0 0 1"
+    );
     Ok(())
 }
 
@@ -446,12 +452,7 @@ fn listing_all_choices_gives_the_same(rt: HostRuntime) -> Result<(), Fail> {
         for (location, first, last) in [("0:9", 0u32, 9u32), ("2:3", 2, 3), ("1", 1, 1)] {
             let last = last.min(tree.components.len() as u32);
             let window = Window::read(alloc, location)?;
-            let states = foresee_joint(alloc, &tree, &window, 1 << 4 | 1 << 11, BANK, 0)?;
-            let mut told = String::new(alloc);
-            for state in states.as_slice() {
-                let state = state_text(alloc, state.as_slice())?;
-                told.push_str(format!(in alloc; "({})", state.as_str())?.as_str())?;
-            }
+            let told = joint_text(alloc, &tree, &window)?;
             let slowly = foreseen_slowly(alloc, &tree, first.min(last), last)?;
             assert_eq!(rt; told.as_str(), slowly.as_str(), "{text} {location}");
         }
@@ -459,27 +460,27 @@ fn listing_all_choices_gives_the_same(rt: HostRuntime) -> Result<(), Fail> {
     Ok(())
 }
 
+/// The digests of SHA-1 and SHA-256, or of SHA-1 alone.
+fn shown(all: Digests, is_sha1_alone: bool) -> Digests {
+    Digests {
+        sha1: all.sha1,
+        sha256: if is_sha1_alone { None } else { all.sha256 },
+        sha384: None,
+        sha512: None,
+    }
+}
+
 /// What was measured: small letters into PCR 4, capital ones into PCR 11, a digit into PCR 4 with a
 /// digest of SHA-1 alone.
 fn log_of(alloc: Global, letters: &str) -> Result<Vec<LogRecord>, Fail> {
     let mut log = Vec::new(alloc);
     for letter in letters.bytes() {
-        let all = hash_all(&[letter.to_ascii_lowercase()]);
-        let digests = if letter.is_ascii_digit() {
-            Digests {
-                sha1: all.sha1,
-                sha256: None,
-                sha384: None,
-                sha512: None,
-            }
-        } else {
-            all
-        };
         let pcr = if letter.is_ascii_uppercase() { 11 } else { 4 };
+        let all = hash_all(&[letter.to_ascii_lowercase()]);
         log.push(LogRecord {
             origin: Origin::User,
             pcr,
-            digests,
+            digests: shown(all, letter.is_ascii_digit()),
         })?;
     }
     Ok(log)
@@ -498,40 +499,69 @@ fn choices_text(alloc: Global, choices: &[Values]) -> Result<String, Fail> {
     Ok(text)
 }
 
+/// A cause as text.
+fn cause_text(alloc: Global, cause: &Cause) -> Result<String, AllocError> {
+    match cause {
+        Cause::NoLogDigest => String::from_str(alloc, "no log digest"),
+        Cause::ValueDiffers { .. } => String::from_str(alloc, "value differs"),
+        Cause::MissingComponent(number) => format!(in alloc; "missing {number}"),
+        Cause::Unrecognised => String::from_str(alloc, "unrecognised"),
+    }
+}
+
+/// A refusal as text.
+fn refusal_text(alloc: Global, error: &ProtectError) -> Result<String, AllocError> {
+    match error {
+        ProtectError::NoDigest {
+            component,
+            variant,
+            place,
+        } => format!(in alloc; "no digest {component} {variant} {place}"),
+        ProtectError::TooMany { pcr, count } => format!(in alloc; "too many {pcr} {count}"),
+        ProtectError::Memory => String::from_str(alloc, "memory"),
+    }
+}
+
 /// A protection as text: each row's mask and lists, and each PCR left out.
-fn told(alloc: Global, answer: &Result<Protection, ProtectError>) -> Result<String, Fail> {
+fn protection_text(alloc: Global, protection: &Protection) -> Result<String, Fail> {
     let mut text = String::new(alloc);
-    match answer {
-        Ok(protection) => {
-            for row in protection.table.rows.as_slice() {
-                let mask = row.pcrs;
-                let choices = choices_text(alloc, row.choices.as_slice())?;
-                text.push_str(format!(in alloc; "{mask}:{choices}; ")?.as_str())?;
-            }
-            for left in protection.left.as_slice() {
-                let pcr = left.pcr;
-                let cause = match &left.cause {
-                    Cause::NoLogDigest => String::from_str(alloc, "no log digest")?,
-                    Cause::ValueDiffers { .. } => String::from_str(alloc, "value differs")?,
-                    Cause::MissingComponent(number) => format!(in alloc; "missing {number}")?,
-                    Cause::Unrecognised => String::from_str(alloc, "unrecognised")?,
-                };
-                text.push_str(format!(in alloc; "{pcr} {cause}; ")?.as_str())?;
-            }
-        }
-        Err(
-            ProtectError::NoDigest {
-                component,
-                variant,
-                place,
-            },
-        ) => text = format!(in alloc; "no digest {component} {variant} {place}")?,
-        Err(ProtectError::TooMany { pcr, count }) => {
-            text = format!(in alloc; "too many {pcr} {count}")?
-        }
-        Err(ProtectError::Memory) => text.push_str("memory")?,
+    for row in protection.table.rows.as_slice() {
+        let mask = row.pcrs;
+        let choices = choices_text(alloc, row.choices.as_slice())?;
+        text.push_str(format!(in alloc; "{mask}:{choices}; ")?.as_str())?;
+    }
+    for left in protection.left.as_slice() {
+        let pcr = left.pcr;
+        let cause = cause_text(alloc, &left.cause)?;
+        text.push_str(format!(in alloc; "{pcr} {cause}; ")?.as_str())?;
     }
     Ok(text)
+}
+
+fn told(alloc: Global, answer: &Result<Protection, ProtectError>) -> Result<String, Fail> {
+    match answer {
+        Ok(protection) => protection_text(alloc, protection),
+        Err(error) => Ok(refusal_text(alloc, error)?),
+    }
+}
+
+/// The values of the 24 PCRs after a log; zeros where a digest is missing.
+fn values_after(alloc: Global, letters: &str) -> Result<Vec<Digest>, Fail> {
+    let log = log_of(alloc, letters)?;
+    let held = replay_all(log.as_slice(), BANK, 0);
+    let mut values = Vec::new(alloc);
+    for value in &held {
+        values.push(value.unwrap_or(Digest::zeros(BANK)))?;
+    }
+    Ok(values)
+}
+
+/// Whether a protection has a row, and yet no valid table.
+fn is_bad(answer: &Result<Protection, ProtectError>) -> bool {
+    match answer {
+        Ok(protection) => { !protection.table.rows.is_empty() && !protection.table.is_valid() }
+        Err(_) => false,
+    }
 }
 
 /// What `protect` answers for a log, where the PCRs hold the replay of another.
@@ -546,11 +576,7 @@ fn protected(
 ) -> Result<String, Fail> {
     let window = Window::read(alloc, location)?;
     let log = log_of(alloc, log)?;
-    let held = log_of(alloc, now)?;
-    let mut values = Vec::new(alloc);
-    for value in replay_all(held.as_slice(), BANK, 0) {
-        values.push(value.unwrap_or(Digest::zeros(BANK)))?;
-    }
+    let values = values_after(alloc, now)?;
     if values.len() != 24 {
         return Err("not 24 values".into());
     }
@@ -565,10 +591,8 @@ fn protected(
         values.as_slice(),
         joint,
     );
-    if let Ok(protection) = &answer {
-        if !protection.table.rows.is_empty() && !protection.table.is_valid() {
-            return Err("no valid table".into());
-        }
+    if is_bad(&answer) {
+        return Err("no valid table".into());
     }
     told(alloc, &answer)
 }
