@@ -9,6 +9,8 @@ mod group;
 mod mask;
 mod table;
 #[cfg(test)]
+mod table_tests;
+#[cfg(test)]
 mod tests;
 mod values;
 

@@ -1,5 +1,6 @@
 -- Later repeats, dropped early or late.
-use Rattle.std.proofs.Common.{◌≡◌, ◌≤◌, Bool, true, false, cond, ◌||◌, List, [], ◌∷◌, ◌++◌, length, map, refl, sym, ap, ◌∙◌, subst, inl, inr, arith}
+use Rattle.std.proofs.Common.{◌≡◌, ℕ, zero, suc, ◌≤◌, Bool, true, false, cond, ◌||◌, List, [], ◌∷◌, ◌++◌, length, map, Some, refl, sym, ap, ◌∙◌, subst, inl, inr, arith}
+use Rattle.std.specs.Prelude.{slice_get}
 use Rattle.std.specs.List.{list_any, flat_map, All}
 use Rattle.std.proofs.lemmas.Bool.{cases_Bool, or_cases, or_left, or_right, false≢true}
 use Rattle.std.proofs.lemmas.List.{length_push, append-nil}
@@ -162,3 +163,9 @@ all_put_grows same list (x ∷ xs) = let more = all_put_grows same (put same lis
 
 pub All-put : {A : Type 0} (P : A → Type 0) (same : A → A → Bool) (list : List A) (x : A) → All P list → P x → All P (put same list x)
 All-put P same list x all here = elim (list_any (same x) list) as (λ b. All P (cond b list (list ++ x ∷ []))) [ true ↦ all | false ↦ All-push P list x all here ]
+
+-- a member that is there
+pub any_at : {A : Type 0} (p : A → Bool) (xs : List A) (k : ℕ) (x : A) → slice_get xs k ≡ Some x → p x ≡ true → list_any p xs ≡ true
+any_at p [] k x is h = absurd cc
+any_at p (y ∷ xs) zero x is h = let same : y ≡ x = cc in or_left (p y) (list_any p xs) (ap p same ∙ h)
+any_at p (y ∷ xs) (suc k) x is h = or_right (p y) (list_any p xs) (any_at p xs k x is h)

@@ -12,7 +12,11 @@ mod spreading;
 mod window;
 
 pub use error::{ForeseeError, ProtectError, WindowError};
+pub use foreseeing::{foresee, foresee_joint};
 pub use protecting::protect;
 pub use protection::{Cause, LeftOut, Protection};
 pub use reading::inside;
 pub use window::Window;
+
+#[cfg(test)]
+mod tests;

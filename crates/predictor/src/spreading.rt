@@ -1,5 +1,6 @@
 //! The states that several PCRs may have together, each kept once, component after component.
-ghost use Rattle.std.specs.Prelude.{◌≡◌, ◌+◌, ◌<◌, ◌≤◌, [], map, length, nat_le, take, if◌then◌else◌, IfOk, OnOk};
+ghost use Rattle.std.specs.Prelude.{◌≡◌, ◌+◌, ◌<◌, ◌≤◌, [], map, length, true, if◌then◌else◌, IfOk, OnOk};
+ghost use Rattle.std.specs.Bool.{OnTrue};
 ghost use Rattle.std.specs.List.{All, list_any};
 ghost use Rattle.hash_bank.specs.Hash.{size_in};
 ghost use Rattle.hash_bank.specs.Extending.{start_of};
@@ -102,11 +103,22 @@ fn is_listed(list: &[Values], values: &Values) -> bool
     list.iter().any(|held| values.is_same(held))
 }
 
+/// Whether the values are the list's last ones. Variants that measure the same into the PCRs, or
+/// nothing, give the same values one after the other, so this is asked before the whole list.
+fn is_last(list: &[Values], values: &Values) -> bool
+    ensures { OnTrue result (list_any (values_eq values.now) list.now ≡ true) }
+{
+    match list.last() {
+        Some(last) => values.is_same(last),
+        None => false,
+    }
+}
+
 /// Puts the values at the end of the list, unless they are there.
 fn put_new(list: &mut List<Values>, values: Values) -> Result<(), Memory>
     ensures { OnOk result (list.new ≡ put values_eq list.old values) }
 {
-    if is_listed(list.as_slice(), &values) {
+    if is_last(list.as_slice(), &values) || is_listed(list.as_slice(), &values) {
         return Ok(());
     }
     list.push(values)

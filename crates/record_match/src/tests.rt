@@ -1,7 +1,7 @@
 //! Recognition on trees that are written as text, and against a body that lists all choices.
 use crate::{MatchError, explain, listed_by};
 use component_tree::{Component, Tree, load_tree};
-use hash_bank::{Bank, Digest, Digests, hash};
+use hash_bank::{Bank, Digest, Digests, hash, hash_all};
 use pcr_replay::{LogRecord, Origin};
 use pl_base::{List, MemFiles, Name};
 use std::alloc::{AllocError, Global};
@@ -292,57 +292,49 @@ fn many_equal_choices_end(rt: HostRuntime) -> Result<(), Fail> {
     Ok(())
 }
 
-/// A measured record of PCR 4 with these digests.
-fn entry(sha1: Option<Digest>, sha256: Option<Digest>) -> Result<LogRecord, Fail> {
-    if let Some(digest) = &sha1 {
-        if digest.as_slice().len() != 20 {
-            return Err("not SHA-1".into());
-        }
-    }
-    if let Some(digest) = &sha256 {
-        if digest.as_slice().len() != 32 {
-            return Err("not SHA-256".into());
-        }
-    }
-    let digests = Digests {
-        sha1,
-        sha256,
+/// The digests of a letter in SHA-1 and of a letter in SHA-256, where they are given.
+fn digests_of(sha1: Option<u8>, sha256: Option<u8>) -> Digests {
+    let first = hash_all(&[sha1.unwrap_or(0)]);
+    let second = hash_all(&[sha256.unwrap_or(0)]);
+    Digests {
+        sha1: if sha1.is_some() { first.sha1 } else { None },
+        sha256: if sha256.is_some() {
+            second.sha256
+        } else {
+            None
+        },
         sha384: None,
         sha512: None,
-    };
-    Ok(LogRecord {
+    }
+}
+
+/// The component that lists what was measured into PCR 4 with these digests.
+fn listing(tree: &Tree, digests: Digests) -> Option<u32> {
+    let entry = LogRecord {
         origin: Origin::User,
         pcr: 4,
         digests,
-    })
+    };
+    listed_by(tree, &entry)
 }
 
 #[test]
 fn records_are_listed_by_the_first_component(rt: HostRuntime) -> Result<(), Fail> {
-    let alloc = rt.alloc();
-    let tree = tree_of(alloc, "1=A 2=b|1 3=ab 4=1")?;
-    let of = |bank: Bank, letter: u8| Some(hash(bank, &[letter]));
-    let table = [
-        (None, of(BANK, b'a'), Some(2)),
-        (None, of(BANK, b'b'), Some(1)),
-        (None, of(BANK, b'c'), None),
-        (None, None, None),
-        (of(Bank::Sha1, b'1'), None, Some(1)),
-        (of(Bank::Sha1, b'2'), None, None),
-        // no record shares the other bank, and the shared one agrees
-        (of(Bank::Sha1, b'2'), of(BANK, b'a'), Some(2)),
-        (of(Bank::Sha1, b'1'), of(BANK, b'c'), Some(1)),
-    ];
-    for (sha1, sha256, expected) in table {
-        assert_eq!(rt; listed_by(&tree, &entry(sha1, sha256)?), expected);
-    }
+    let tree = tree_of(rt.alloc(), "1=A 2=b|1 3=ab 4=1")?;
+    assert_eq!(rt; listing(&tree, digests_of(None, Some(b'a'))), Some(2));
+    assert_eq!(rt; listing(&tree, digests_of(None, Some(b'b'))), Some(1));
+    assert_eq!(rt; listing(&tree, digests_of(None, Some(b'c'))), None);
+    assert_eq!(rt; listing(&tree, digests_of(None, None)), None);
+    assert_eq!(rt; listing(&tree, digests_of(Some(b'1'), None)), Some(1));
+    assert_eq!(rt; listing(&tree, digests_of(Some(b'2'), None)), None);
+    // a record shares one of the two banks alone, and agrees there
+    assert_eq!(rt; listing(&tree, digests_of(Some(b'2'), Some(b'a'))), Some(2));
+    assert_eq!(rt; listing(&tree, digests_of(Some(b'1'), Some(b'c'))), Some(1));
     Ok(())
 }
 
-/// A record with a digest in both banks lists what agrees with it in both.
-#[test]
-fn all_shared_banks_have_to_agree(rt: HostRuntime) -> Result<(), Fail> {
-    let alloc = rt.alloc();
+/// A tree of one component, whose record in PCR 4 has digests of a letter in both banks.
+fn tree_of_two_banks(alloc: Global) -> Result<Tree, Fail> {
     let one = hash(Bank::Sha1, b"a").to_string(alloc)?;
     let two = hash(BANK, b"a").to_string(alloc)?;
     let text = format!(in alloc;
@@ -352,13 +344,15 @@ fn all_shared_banks_have_to_agree(rt: HostRuntime) -> Result<(), Fail> {
     files.put("t/x.pcrlock", text.as_bytes())?;
     let mut folders = Vec::new(alloc);
     folders.push(Name::from_text(alloc, "t")?)?;
-    let tree = load_tree(alloc, &mut files, &folders)?;
-    let of = |bank: Bank, text: &[u8]| Some(hash(bank, text));
-    let same = entry(of(Bank::Sha1, b"a"), of(BANK, b"a"))?;
-    assert_eq!(rt; listed_by(&tree, &same), Some(0));
-    let mixed = entry(of(Bank::Sha1, b"b"), of(BANK, b"a"))?;
-    assert_eq!(rt; listed_by(&tree, &mixed), None);
-    let short = entry(None, of(BANK, b"a"))?;
-    assert_eq!(rt; listed_by(&tree, &short), Some(0));
+    Ok(load_tree(alloc, &mut files, &folders)?)
+}
+
+#[test]
+fn all_shared_banks_have_to_agree(rt: HostRuntime) -> Result<(), Fail> {
+    let tree = tree_of_two_banks(rt.alloc())?;
+    assert_eq!(rt; listing(&tree, digests_of(Some(b'a'), Some(b'a'))), Some(0));
+    assert_eq!(rt; listing(&tree, digests_of(Some(b'b'), Some(b'a'))), None);
+    assert_eq!(rt; listing(&tree, digests_of(Some(b'a'), Some(b'b'))), None);
+    assert_eq!(rt; listing(&tree, digests_of(None, Some(b'a'))), Some(0));
     Ok(())
 }
