@@ -5,6 +5,7 @@ use Rattle.std.proofs.lemmas.Bool.{le-leb}
 use Rattle.pcrlock_words.specs.declared.request.Request.{Request}
 use Rattle.pcrlock_words.specs.declared.request.Request.TheVariants as requests
 use Rattle.pcrlock_line.specs.Machine.{Machine}
+use Rattle.hash_bank.specs.declared.banks.Banks.{Banks}
 use Rattle.pcrlock_read.specs.Cel.{cel_line}
 use Rattle.pcrlock_read.specs.ComponentLines.{list_components_line}
 use Rattle.pcrlock_tpm.specs.Extend.{tpm_extend_line}
@@ -15,7 +16,7 @@ use Rattle.pcrlock_line.specs.declared.stop.Stop.{Stop}
 use Rattle.pcrlock_line.specs.Outcome.{Outcome, refused_line}
 use Rattle.pcrlock_seal.specs.Enroll.{enroll_line}
 use Rattle.pcrlock_run.specs.Leaves.{Safe}
-use Rattle.pcrlock_run.specs.Script.{command_line, enroll_outcome, unseal_outcome}
+use Rattle.pcrlock_run.specs.Script.{boot_line, command_line, enroll_outcome, unseal_outcome}
 
 -- an extend of a PCR up to 23
 pub extends : (state : List ℕ) (request : Request) (pcr : ℕ) (bytes given : List ℕ) (m : Machine) → request ≡ requests.TpmExtend pcr bytes → given ≡ bytes → pcr ≤ 23
@@ -47,6 +48,11 @@ prints state request firmware user m is = ap (λ (r : Request). command_line sta
 pub lists : (state : List ℕ) (request : Request) (folders : List (List ℕ)) (m : Machine) → request ≡ requests.ListComponents folders → command_line state request m ≡ list_components_line folders m
 unfolding command_line
 lists state request folders m is = ap (λ (r : Request). command_line state r m) is
+
+pub starts : (state : List ℕ) (request : Request) (firmware user : Option (List ℕ)) (locality : Option ℕ) (banks : Banks) (m : Machine) → request ≡ requests.TpmBoot firmware user locality banks
+    → command_line state request m ≡ boot_line state firmware user locality banks m
+unfolding command_line
+starts state request firmware user locality banks m is = ap (λ (r : Request). command_line state r m) is
 
 -- what holds of an outcome holds of one that equals it
 pub by_outcome : (a b : Outcome) (L : Outcome → Type 0) → a ≡ b → L b → L a

@@ -1,6 +1,6 @@
 -- Each `unseal` of a run is exact.
 use Rattle.std.proofs.Common.{◌≡◌, ℕ, Bool, true, false, cond, List, [], ◌∷◌, ◌++◌, refl, sym, ap, ◌∙◌, subst}
-use Rattle.std.specs.Prelude.{Option, None, Some, nat_le}
+use Rattle.std.specs.Prelude.{Option, None, Some, nat_le, Result, Ok, Err}
 use Rattle.std.specs.List.{Contains}
 use Rattle.std.proofs.lemmas.List.Elements.{Contains-append_left}
 use Rattle.hash_bank.specs.declared.bank.Bank.{Bank}
@@ -15,16 +15,20 @@ use Rattle.pcrlock_words.specs.Lines.{words_of}
 use Rattle.pcrlock_line.specs.Machine.{Machine, Live, machine}
 use Rattle.pcrlock_line.specs.Content.{Content, content_of}
 use Rattle.pcrlock_line.specs.Worlds.{IsTied, IsTiedTo, by_state}
+use Rattle.hash_bank.specs.declared.banks.Banks.{Banks}
+use Rattle.pcrlock_words.specs.declared.answer.Answer.{Answer}
+use Rattle.pcrlock_input.specs.Logs.{PlainLogs, logs_of}
+use Rattle.pcrlock_tpm.specs.Boot.{boot_world}
 use Rattle.pcrlock_tpm.specs.Extend.{extend_world}
 use Rattle.pcrlock_seal.specs.EnrollWorld.{enroll_world}
 use Rattle.pcrlock_seal.proofs.Enrolled.{enroll_grows}
 use Rattle.pcrlock_open.specs.Headline.{IsEnrolled, IsSafe, OpensExactly}
 use Rattle.pcrlock_open.specs.Unseal.{unseal_line}
 use Rattle.pcrlock_open.proofs.Opens.{opens}
-use Rattle.pcrlock_run.specs.Script.{unseal_outcome, line}
+use Rattle.pcrlock_run.specs.Script.{unseal_outcome, line, can_boot}
 use Rattle.pcrlock_run.specs.Whole.{script_bytes_limit}
 use Rattle.pcrlock_run.specs.Leaves.{Safe}
-use Rattle.pcrlock_run.specs.Worlds.{enrolled_world, command_world, answered_world, line_world, script_world, lines_run, request_world, spelled_world, run_world}
+use Rattle.pcrlock_run.specs.Worlds.{booted_world, enrolled_world, command_world, answered_world, line_world, script_world, lines_run, request_world, spelled_world, run_world}
 use Rattle.pcrlock_run.specs.Headline.{UnsealIsExact, CommandIsExact, LinesAreExact, RequestIsExact, RunIsExact}
 use Rattle.pcrlock_run.proofs.Kept.{line_kept}
 
@@ -56,6 +60,10 @@ grows_enrolled : (key : Option (List ℕ)) (literal : Option ℕ) (bank : Bank) 
 grows_enrolled key (Some pcr) bank m w = grows_if (nat_le pcr 23) w _ (grows_state m.device m w (enroll_world pcr bank key) (λ live. enroll_grows pcr bank key live w))
 grows_enrolled key None bank m w = λ x h. h
 
+grows_booted : (locality : Option ℕ) (banks : Banks) (logs : Result PlainLogs Answer) (m : Machine) (w : World) → Grows w (booted_world locality banks logs m w)
+grows_booted locality banks (Err answer) m w = λ x h. h
+grows_booted locality banks (Ok logs) m w = grows_state m.device m w (λ (live : Live) (v : World). boot_world locality banks logs live.state v) (λ live x h. h)
+
 grows_command : (state : List ℕ) (request : Request) (m : Machine) (w : World) → Grows w (command_world state request m w)
 grows_command state (requests.TpmExtend pcr bytes) m w =
     grows_if (nat_le pcr 23) w _ (grows_state m.device m w (λ (live : Live) (v : World). extend_world pcr bytes live.state v) (λ live x h. h))
@@ -63,7 +71,7 @@ grows_command state (requests.Enroll token policy key literal bank) m w = grows_
 grows_command state (requests.Unseal token policy) m w = grows_hashed w (unseal_outcome state token m).hashed
 grows_command state (requests.Cel firmware user) m w = λ x h. h
 grows_command state (requests.ListComponents folders) m w = λ x h. h
-grows_command state (requests.TpmBoot firmware user locality banks) m w = λ x h. h
+grows_command state (requests.TpmBoot firmware user locality banks) m w = grows_if (can_boot locality banks) w _ (grows_booted locality banks (logs_of m.files firmware user) m w)
 grows_command state (requests.Log firmware user folders bank) m w = λ x h. h
 grows_command state (requests.TpmExec commands) m w = λ x h. h
 grows_command state (requests.Script file policy index) m w = λ x h. h

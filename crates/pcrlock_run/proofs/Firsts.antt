@@ -26,6 +26,7 @@ use Rattle.pcrlock_run.specs.Lines.{lines_of, line_count}
 use Rattle.pcrlock_run.specs.Script.{command_line, enroll_outcome, unseal_outcome, answered, line, script_from}
 use Rattle.pcrlock_run.specs.Whole.{alone, script_of_text, script_of_bytes, script_of_content, run_script, run_request, run_spelled, script_bytes_limit, script_lines_limit}
 use Rattle.pcrlock_run.specs.Leaves.{IsNoScript}
+use Rattle.pcrlock_run.proofs.Booting.{boot_first}
 use Rattle.pcrlock_run.proofs.Folds.{begins_at}
 
 -- what holds after a stop, in another result
@@ -60,7 +61,7 @@ command_first held stored state (requests.Enroll token policy key literal bank) 
 command_first held stored state (requests.Unseal token policy) m at = unsealed_first held stored state token m at
 command_first held stored state (requests.Cel firmware user) m at = inl at
 command_first held stored state (requests.ListComponents folders) m at = inl at
-command_first held stored state (requests.TpmBoot firmware user locality banks) m at = inl at
+command_first held stored state (requests.TpmBoot firmware user locality banks) m at = boot_first held stored state firmware user locality banks m at
 command_first held stored state (requests.Log firmware user folders bank) m at = inl at
 command_first held stored state (requests.TpmExec commands) m at = inl at
 command_first held stored state (requests.Script file policy index) m at = inl at

@@ -28,6 +28,7 @@ use Rattle.pcrlock_seal.specs.EnrollWorld.{enroll_world}
 use Rattle.pcrlock_seal.proofs.Enrolled.{enroll_tied, enroll_order, enroll_leaves}
 use Rattle.pcrlock_open.specs.Unseal.{unseal_line}
 use Rattle.pcrlock_open.proofs.Ties.{unseal_tied}
+use Rattle.pcrlock_run.proofs.Booting.{boot_kept}
 use Rattle.pcrlock_run.specs.Lines.{lines_of, line_count}
 use Rattle.pcrlock_run.specs.Script.{enroll_outcome, unseal_outcome, command_line, answered, line, script_from}
 use Rattle.pcrlock_run.specs.Whole.{alone, script_of_text, script_of_bytes, script_of_content, run_request, run_spelled, run_line, script_bytes_limit, script_lines_limit}
@@ -87,7 +88,7 @@ command_kept state (requests.Enroll token policy key literal bank) m w t = enrol
 command_kept state (requests.Unseal token policy) m w t = unsealed_kept state token m w t
 command_kept state (requests.Cel firmware user) m w t = t
 command_kept state (requests.ListComponents folders) m w t = t
-command_kept state (requests.TpmBoot firmware user locality banks) m w t = t
+command_kept state (requests.TpmBoot firmware user locality banks) m w t = boot_kept state firmware user locality banks m w t
 command_kept state (requests.Log firmware user folders bank) m w t = t
 command_kept state (requests.TpmExec commands) m w t = t
 command_kept state (requests.Script file policy index) m w t = t

@@ -5,6 +5,7 @@ pub mod Folds
 pub mod Parts
 pub mod Commands
 pub mod Texts
+pub mod Booting
 pub mod Kept
 pub mod Exact
 pub mod Lasts

@@ -1,5 +1,5 @@
 -- What a command does by its request, and what a script does line by line.
-use Rattle.std.specs.Prelude.{ℕ, Bool, nat_le, if◌then◌else◌, List, [], ◌∷◌, ◌++◌, Option, None, Some}
+use Rattle.std.specs.Prelude.{ℕ, Bool, true, ◌&&◌, ◌||◌, nat_le, if◌then◌else◌, List, [], ◌∷◌, ◌++◌, Option, None, Some}
 use Rattle.hash_bank.specs.HashedString.{HashedString}
 use Rattle.pcrlock_words.specs.declared.answer.Answer.{Answer}
 use Rattle.pcrlock_words.specs.declared.answer.Answer.TheVariants as answers
@@ -13,6 +13,9 @@ use Rattle.pcrlock_line.specs.Outcome.{Outcome, refused_line}
 use Rattle.hash_bank.specs.declared.bank.Bank.{Bank}
 use Rattle.pcrlock_read.specs.Cel.{cel_line}
 use Rattle.pcrlock_read.specs.ComponentLines.{list_components_line}
+use Rattle.hash_bank.specs.declared.banks.Banks.{Banks}
+use Rattle.tpm_model.specs.PcrCommands.{is_start_locality}
+use Rattle.pcrlock_tpm.specs.Boot.{tpm_boot_line}
 use Rattle.pcrlock_tpm.specs.Extend.{tpm_extend_line}
 use Rattle.pcrlock_seal.specs.Enroll.{enroll_line}
 use Rattle.pcrlock_open.specs.Unseal.{unseal_line}
@@ -27,6 +30,22 @@ enroll_outcome state token key None bank m = refused_line answers.BadWords m
 unfoldable pub unseal_outcome : List ℕ → List ℕ → Machine → Outcome
 unseal_outcome state token m = unseal_line state token m
 
+-- whether a TPM can start at this locality, where one is given, with these banks
+abbrev pub locates : Option ℕ → Bool
+locates None = true
+locates (Some locality) = is_start_locality locality
+
+abbrev pub has_some : Banks → Bool
+has_some banks = banks.sha1 || banks.sha256 || banks.sha384 || banks.sha512
+
+abbrev pub can_boot : Option ℕ → Banks → Bool
+can_boot locality banks = locates locality && has_some banks
+
+-- `tpm-boot` with what a TPM can start with
+unfoldable pub boot_line : List ℕ → Option (List ℕ) → Option (List ℕ) → Option ℕ → Banks → Machine → Outcome
+boot_line state firmware user locality banks m =
+    if can_boot locality banks then tpm_boot_line state firmware user locality banks m else refused_line answers.BadWords m
+
 -- what a command does, by cases, where the TPM's state stands at the path; a script inside a script is no
 -- command
 unfoldable pub command_line : List ℕ → Request → Machine → Outcome
@@ -35,7 +54,7 @@ command_line state (requests.Enroll token policy key literal bank) m = enroll_ou
 command_line state (requests.Unseal token policy) m = unseal_outcome state token m
 command_line state (requests.Cel firmware user) m = cel_line firmware user m
 command_line state (requests.ListComponents folders) m = list_components_line folders m
-command_line state (requests.TpmBoot firmware user locality banks) m = refused_line answers.BadWords m
+command_line state (requests.TpmBoot firmware user locality banks) m = boot_line state firmware user locality banks m
 command_line state (requests.Log firmware user folders bank) m = refused_line answers.BadWords m
 command_line state (requests.TpmExec commands) m = refused_line answers.BadWords m
 command_line state (requests.Script file policy index) m = refused_line answers.BadWords m

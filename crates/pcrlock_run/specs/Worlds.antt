@@ -1,5 +1,5 @@
 -- What a run adds to the world that is tied to the TPM's state.
-use Rattle.std.specs.Prelude.{ℕ, Bool, nat_lt, nat_le, if◌then◌else◌, List, [], ◌∷◌, length, Option, None, Some}
+use Rattle.std.specs.Prelude.{ℕ, Bool, nat_lt, nat_le, if◌then◌else◌, List, [], ◌∷◌, length, Option, None, Some, Result, Ok, Err}
 use Rattle.std.specs.Str.Lossy.{utf8_valid_len}
 use Rattle.hash_bank.specs.declared.bank.Bank.{Bank}
 use Rattle.tpm_model.specs.World.{World, hashed_world}
@@ -11,10 +11,14 @@ use Rattle.pcrlock_line.specs.Machine.{Machine, Live}
 use Rattle.pcrlock_line.specs.Worlds.{by_state}
 use Rattle.pcrlock_line.specs.Content as content
 use Rattle.pcrlock_line.specs.Content.{Content, content_of}
+use Rattle.hash_bank.specs.declared.banks.Banks.{Banks}
+use Rattle.pcrlock_words.specs.declared.answer.Answer.{Answer}
+use Rattle.pcrlock_input.specs.Logs.{PlainLogs, logs_of}
+use Rattle.pcrlock_tpm.specs.Boot.{boot_world}
 use Rattle.pcrlock_tpm.specs.Extend.{extend_world}
 use Rattle.pcrlock_seal.specs.EnrollWorld.{enroll_world}
 use Rattle.pcrlock_run.specs.Lines.{lines_of, line_count}
-use Rattle.pcrlock_run.specs.Script.{line, unseal_outcome}
+use Rattle.pcrlock_run.specs.Script.{line, unseal_outcome, can_boot}
 use Rattle.pcrlock_run.specs.Whole.{script_bytes_limit, script_lines_limit}
 
 -- the world after an enrolling under a PCR
@@ -22,7 +26,12 @@ abbrev pub enrolled_world : Option (List ℕ) → Option ℕ → Bank → Machin
 enrolled_world key (Some pcr) bank m w = if nat_le pcr 23 then by_state m.device m w (enroll_world pcr bank key) else w
 enrolled_world key None bank m w = w
 
--- the world after a command: an extend is followed, an enrolled object is put in with its binding, and
+-- the world after a boot with the logs that were read
+abbrev pub booted_world : Option ℕ → Banks → Result PlainLogs Answer → Machine → World → World
+booted_world locality banks (Err answer) m w = w
+booted_world locality banks (Ok logs) m w = by_state m.device m w (λ (live : Live) (v : World). boot_world locality banks logs live.state v)
+
+-- the world after a command: a boot and an extend are followed, an enrolled object is put in with its binding, and
 -- the strings of an unseal are hashed
 abbrev pub command_world : List ℕ → Request → Machine → World → World
 command_world state (requests.TpmExtend pcr bytes) m w = if nat_le pcr 23 then by_state m.device m w (λ (live : Live) (v : World). extend_world pcr bytes live.state v) else w
@@ -30,7 +39,7 @@ command_world state (requests.Enroll token policy key literal bank) m w = enroll
 command_world state (requests.Unseal token policy) m w = hashed_world (unseal_outcome state token m).hashed w
 command_world state (requests.Cel firmware user) m w = w
 command_world state (requests.ListComponents folders) m w = w
-command_world state (requests.TpmBoot firmware user locality banks) m w = w
+command_world state (requests.TpmBoot firmware user locality banks) m w = if can_boot locality banks then booted_world locality banks (logs_of m.files firmware user) m w else w
 command_world state (requests.Log firmware user folders bank) m w = w
 command_world state (requests.TpmExec commands) m w = w
 command_world state (requests.Script file policy index) m w = w

@@ -7,15 +7,15 @@ ghost use Rattle.pcrlock_read.specs.ComponentLines.{list_components_line};
 ghost use Rattle.pcrlock_line.specs.Outcome.{Gives};
 ghost use Rattle.pcrlock_line.specs.Stopped.{StandsAmong};
 ghost use Rattle.pcrlock_line.specs.Causes.{HasCauses};
-ghost use Rattle.pcrlock_run.specs.Script.{command_line, enroll_outcome, unseal_outcome, line as line_outcome};
+ghost use Rattle.pcrlock_run.specs.Script.{boot_line, can_boot, command_line, enroll_outcome, unseal_outcome, line as line_outcome};
 ghost use Rattle.pcrlock_run.specs.Leaves.{Safe};
 
-use hash_bank::Bank;
+use hash_bank::{Bank, Banks};
 use pcrlock_line::{Reply, Stop};
 use pcrlock_open::unseal;
 use pcrlock_read::{cel, list_components};
 use pcrlock_seal::enroll;
-use pcrlock_tpm::tpm_extend;
+use pcrlock_tpm::{tpm_boot, tpm_extend};
 use pcrlock_words::{Answer, Request, WordsError, read_words};
 use pl_base::{Entropy, Files, List, Name, Small};
 use std::alloc::Global;
@@ -101,6 +101,50 @@ fn print_components<F: Files>(
     list_components(alloc, files, folders.as_slice())
 }
 
+/// Whether a TPM can start at the locality, where one is given, with the banks.
+fn can_boot(locality: Option<u8>, banks: Banks) -> bool
+    ensures { result ≡ can_boot locality banks }
+{
+    let located = match locality {
+        None => true,
+        Some(number) => number == 0 || number == 3 || number == 4,
+    };
+    located && (banks.sha1 || banks.sha256 || banks.sha384 || banks.sha512)
+}
+
+/// Starts the TPM with what both logs say.
+fn boot<F: Files, T: Tpm>(
+    alloc: Global,
+    state: &Name,
+    files: &mut F,
+    tpm: &mut T,
+    firmware: &Option<Name>,
+    user: &Option<Name>,
+    locality: Option<u8>,
+    banks: Banks,
+) -> Result<Reply, Stop>
+    ensures causes { HasCauses (F.faults files.old, 0, T.faults tpm.old, 0) (F.faults files.new, 0, T.faults tpm.new, 0) result }
+    ensures told { (words : Option (Sequence (Sequence ℕ))) (m : Machine) → Tells (F.held files.old) (T.stored tpm.old) words m
+        → IfOk result (λ reply. Gives (F.held files.new) (T.stored tpm.new) words reply (boot_line state.now firmware.now user.now locality banks m)) }
+    ensures stops { (words : Option (Sequence (Sequence ℕ))) (m : Machine) → Tells (F.held files.old) (T.stored tpm.old) words m
+        → IfErr result (λ _. StandsAmong (F.held files.new) (T.stored tpm.new) (boot_line state.now firmware.now user.now locality banks m).stops) }
+{
+    if can_boot(locality, banks) {
+        tpm_boot(
+            alloc,
+            files,
+            tpm,
+            state,
+            firmware.as_ref(),
+            user.as_ref(),
+            locality,
+            banks,
+        )
+    } else {
+        Ok(Reply::Refused(Answer::BadWords))
+    }
+}
+
 /// Runs the command of a request, where the TPM's state stands at the path. A script is no command of a
 /// script.
 #[tactic(auto, unfolding(crate::specs::Script::command_line))]
@@ -140,8 +184,22 @@ pub fn command<F: Files, T: Tpm, E: Entropy>(
             userspace_log,
         } => print_cel(alloc, files, firmware_log, userspace_log),
         Request::ListComponents { components } => print_components(alloc, files, components),
-        Request::TpmBoot { .. }
-        | Request::Log { .. }
+        Request::TpmBoot {
+            firmware_log,
+            userspace_log,
+            locality,
+            banks,
+        } => boot(
+            alloc,
+            state,
+            files,
+            tpm,
+            firmware_log,
+            userspace_log,
+            *locality,
+            *banks,
+        ),
+        Request::Log { .. }
         | Request::TpmExec { .. }
         | Request::Script { .. } => Ok(Reply::Refused(Answer::BadWords)),
     }

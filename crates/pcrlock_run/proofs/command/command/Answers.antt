@@ -4,7 +4,7 @@ use Rattle.pcrlock_line.specs.Outcome.{Outcome, Gives}
 use Rattle.pcrlock_line.specs.Stopped.{StandsAmong}
 use Rattle.pcrlock_run.specs.Leaves.{Safe}
 use Rattle.pcrlock_run.proofs.Widened.{beside_tpm, beside_entropy, beside_files}
-use Rattle.pcrlock_run.proofs.Commands.{extends, enrolls, unseals, prints, lists, by_outcome}
+use Rattle.pcrlock_run.proofs.Commands.{extends, enrolls, unseals, prints, lists, starts, by_outcome}
 use Rattle.pcrlock_run.proofs.command.command.Goals as goal
 
 pub returns-then-pcr-le23-clause-causes : goal.returns-then-pcr-le23-clause-causes
@@ -70,3 +70,16 @@ pub returns-in-ListComponents-clause-stops : goal.returns-in-ListComponents-clau
 returns-in-ListComponents-clause-stops g c = λ m tells. by_outcome _ _
     (λ (o : Outcome). IfErr c.print_components.result (λ _. StandsAmong (g.F.Files.held c.print_components.new.files) (g.T.Tpm.stored c.args.tpm.now) o.stops))
     (lists c.args.state.now c.args.request.now _ m c.in-ListComponents.is) (c.print_components.ensures.stops _ _ m tells)
+
+pub returns-in-TpmBoot-clause-causes : goal.returns-in-TpmBoot-clause-causes
+returns-in-TpmBoot-clause-causes g c = beside_entropy _ _ _ _ _ c.boot.result c.boot.ensures.causes
+
+pub returns-in-TpmBoot-clause-told : goal.returns-in-TpmBoot-clause-told
+returns-in-TpmBoot-clause-told g c = λ m tells safe. by_outcome _ _
+    (λ (o : Outcome). IfOk c.boot.result (λ (r : Reply). Gives (g.F.Files.held c.boot.new.files) (g.T.Tpm.stored c.boot.new.tpm) (g.E.Entropy.words c.args.entropy.now) r o))
+    (starts c.args.state.now c.args.request.now _ _ _ _ m c.in-TpmBoot.is) (c.boot.ensures.told _ m tells)
+
+pub returns-in-TpmBoot-clause-stops : goal.returns-in-TpmBoot-clause-stops
+returns-in-TpmBoot-clause-stops g c = λ m tells. by_outcome _ _
+    (λ (o : Outcome). IfErr c.boot.result (λ _. StandsAmong (g.F.Files.held c.boot.new.files) (g.T.Tpm.stored c.boot.new.tpm) o.stops))
+    (starts c.args.state.now c.args.request.now _ _ _ _ m c.in-TpmBoot.is) (c.boot.ensures.stops _ m tells)
