@@ -177,7 +177,9 @@ pub fn command<F: Files, T: Tpm, E: Entropy>(
             literal,
             bank,
             ..
-        } => enroll_literal(alloc, state, files, tpm, entropy, token, key, *literal, *bank),
+        } => enroll_literal(
+            alloc, state, files, tpm, entropy, token, key, *literal, *bank,
+        ),
         Request::Unseal { token, .. } => unseal_token(alloc, state, files, tpm, token),
         Request::Cel {
             firmware_log,
@@ -199,9 +201,9 @@ pub fn command<F: Files, T: Tpm, E: Entropy>(
             *locality,
             *banks,
         ),
-        Request::Log { .. }
-        | Request::TpmExec { .. }
-        | Request::Script { .. } => Ok(Reply::Refused(Answer::BadWords)),
+        Request::Log { .. } | Request::TpmExec { .. } | Request::Script { .. } => Ok(Reply::Refused(
+            Answer::BadWords,
+        )),
     }
 }
 

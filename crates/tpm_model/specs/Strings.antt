@@ -25,12 +25,12 @@ abbrev pub pcr_strings : Option Session → Bank → ℕ → Parts → List Hash
 pcr_strings None bank pcrs s = []
 pcr_strings (Some session) bank pcrs s =
     if has_bank s.banks bank then
-      record { hash = session.hash; bytes = joined_values bank pcrs s }
-      ∷ record {
-        hash = session.hash;
-        bytes = pcr_string_in session.hash session.digest bank pcrs (present_digest_in session.hash bank pcrs s.banks s.pcrs);
-      }
-      ∷ []
+    record { hash = session.hash; bytes = joined_values bank pcrs s }
+    ∷ record {
+      hash = session.hash;
+      bytes = pcr_string_in session.hash session.digest bank pcrs (present_digest_in session.hash bank pcrs s.banks s.pcrs);
+    }
+    ∷ []
     else []
 
 -- PolicyOR on the session that was found
