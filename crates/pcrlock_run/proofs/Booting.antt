@@ -1,5 +1,5 @@
 -- `tpm-boot` in a run.
-use Rattle.std.proofs.Common.{◌≡◌, ℕ, Bool, true, false, cond, ◌&&◌, ◌||◌, ◌+◌, List, [], ◌∷◌, map, inl, inr, refl, ap, subst}
+use Rattle.std.proofs.Common.{◌≡◌, ℕ, Bool, true, false, cond, ◌&&◌, ◌||◌, ◌+◌, List, [], ◌∷◌, map, inl, inr, refl, sym, ap, ◌∙◌, subst}
 use Rattle.std.specs.Prelude.{Option, None, Some, IfSome, Result, Ok, Err, ◌==◌}
 use Rattle.pl_base.specs.FileMap.{FileMap}
 use Rattle.hash_bank.specs.declared.banks.Banks.{Banks}
@@ -61,10 +61,18 @@ pub can_bank : (locality : Option ℕ) (banks : Banks) → can_boot locality ban
 can_bank locality banks e = some_bank banks.sha1 banks.sha256 banks.sha384 banks.sha512 (and_second (locates locality) (has_some banks) e)
 
 -- the line of a boot that a TPM can do
-pub boots : (state : List ℕ) (firmware user : Option (List ℕ)) (locality : Option ℕ) (banks : Banks) (m : Machine) → can_boot locality banks ≡ true
-    → boot_line state firmware user locality banks m ≡ tpm_boot_line state firmware user locality banks m
+pub boots : (state : List ℕ) (firmware user f u : Option (List ℕ)) (locality : Option ℕ) (banks : Banks) (m : Machine) → can_boot locality banks ≡ true → f ≡ firmware → u ≡ user
+    → boot_line state firmware user locality banks m ≡ tpm_boot_line state f u locality banks m
 unfolding boot_line
-boots state firmware user locality banks m e = ap (λ (v : Bool). cond v (tpm_boot_line state firmware user locality banks m) (refused_line answers.BadWords m)) e
+boots state firmware user f u locality banks m e is same =
+    ap (λ (v : Bool). cond v (tpm_boot_line state firmware user locality banks m) (refused_line answers.BadWords m)) e
+    ∙ ap (λ (x : Option (List ℕ)). tpm_boot_line state x user locality banks m) (sym is)
+    ∙ ap (λ (x : Option (List ℕ)). tpm_boot_line state f x locality banks m) (sym same)
+
+pub boots_not : (state : List ℕ) (firmware user : Option (List ℕ)) (locality : Option ℕ) (banks : Banks) (m : Machine) → can_boot locality banks ≡ false
+    → boot_line state firmware user locality banks m ≡ refused_line answers.BadWords m
+unfolding boot_line
+boots_not state firmware user locality banks m e = ap (λ (v : Bool). cond v (tpm_boot_line state firmware user locality banks m) (refused_line answers.BadWords m)) e
 
 -- after the last record
 last_from : (held : Option FileMap) (kept : Option Stored) (m : Live) (list : List Row) (s : Parts) → StandsAt held kept (at_state m (measured list s)) → StandsAmong held kept (map (at_state m) (measured_states list s))
