@@ -229,7 +229,7 @@ values_takes all banks bytes x fits e =
     (joined b.more c.more d.more a.whole b.whole c.whole d.whole)
     (Takes-then a.takes (Takes-then b.takes (Takes-then c.takes d.takes)))
     (four_sized banks a.more b.more c.more d.more (sizes_from banks.sha1 20 a.more a.count a.fits) (sizes_from banks.sha256 32 b.more b.count b.fits)
-      (sizes_from banks.sha384 48 c.more c.count c.fits) (sizes_from banks.sha512 64 d.more d.count d.fits))
+    (sizes_from banks.sha384 48 c.more c.count c.fits) (sizes_from banks.sha512 64 d.more d.count d.fits))
 
 values_four : (all : ℕ) (banks : Banks) (a b c d : List (List ℕ)) (rest : List ℕ) → Sized banks.sha1 20 a → Sized banks.sha256 32 b → Sized banks.sha384 48 c → Sized banks.sha512 64 d
     → values_at all banks (values_text (((a ++ b) ++ c) ++ d) ++ rest) ≡ Ok (((a ++ b) ++ c) ++ d, rest)

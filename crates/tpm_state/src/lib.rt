@@ -19,4 +19,3 @@ pub use crate::decoding::decode;
 pub use crate::encoding::encode;
 pub use crate::error::DecodeError;
 pub use crate::file_tpm::FileTpm;
-
