@@ -5,3 +5,5 @@
 mod faults;
 #[cfg(test)]
 mod scripts;
+#[cfg(test)]
+mod stored;
