@@ -32,7 +32,7 @@ struct Ran {
 }
 
 /// Runs the words over the files, and over the state file among its own.
-fn ran(
+fn run_over(
     alloc: Global,
     words: &[&str],
     files: &mut MemFiles,
@@ -157,7 +157,7 @@ fn goes_on_in_later_runs(rt: HostRuntime) -> Result<(), Fail> {
     let mut state = MemFiles::new(alloc, List::new(alloc));
     let mut entropy = ListEntropy::new(List::new(alloc), List::new(alloc));
     for step in &STEPS {
-        let left = ran(alloc, step.words, &mut files, state, &mut entropy)?;
+        let left = run_over(alloc, step.words, &mut files, state, &mut entropy)?;
         assert_eq!(rt; left.status, step.status);
         assert_eq!(rt; left.out.bytes(), step.out.as_bytes());
         assert_eq!(rt; left.err.bytes(), step.err.as_bytes());
@@ -174,9 +174,9 @@ fn enrolled(
 ) -> Result<MemFiles, Memory> {
     let words = ["tpm-extend", "--pcr", "11", "--text", "abc"];
     let state = MemFiles::new(alloc, List::new(alloc));
-    let left = ran(alloc, &words, files, state, entropy)?;
+    let left = run_over(alloc, &words, files, state, entropy)?;
     let words = ["enroll", "--token", "t", "--literal", "11", "--key", "00ff"];
-    let left = ran(alloc, &words, files, left.state, entropy)?;
+    let left = run_over(alloc, &words, files, left.state, entropy)?;
     Ok(left.state)
 }
 
@@ -189,7 +189,7 @@ fn unsealed(
 ) -> Result<Ran, Memory> {
     let mut state = MemFiles::new(alloc, List::new(alloc));
     state.put(STATE, bytes)?;
-    ran(alloc, &["unseal", "--token", "t"], files, state, entropy)
+    run_over(alloc, &["unseal", "--token", "t"], files, state, entropy)
 }
 
 #[test]
@@ -236,7 +236,7 @@ fn tells_broken_rules_and_ends(rt: HostRuntime) -> Result<(), Fail> {
     let mut full = MemFiles::new(alloc, List::new(alloc));
     full.put(STATE, &bytes)?;
     let words = ["tpm-extend", "--pcr", "11", "--text", "abc"];
-    let left = ran(alloc, &words, &mut files, full, &mut entropy)?;
+    let left = run_over(alloc, &words, &mut files, full, &mut entropy)?;
     assert_eq!(rt; left.status, 4);
     assert_eq!(rt;
         left.err.bytes(),
@@ -255,7 +255,7 @@ fn keeps_a_drawn_key_in_the_state_file(rt: HostRuntime) -> Result<(), Fail> {
     let mut entropy = ListEntropy::new(draws, List::new(alloc));
     let state = MemFiles::new(alloc, List::new(alloc));
     let words = ["enroll", "--token", "t", "--literal", "11"];
-    let left = ran(alloc, &words, &mut files, state, &mut entropy)?;
+    let left = run_over(alloc, &words, &mut files, state, &mut entropy)?;
     assert_eq!(rt; left.out.bytes(), b"enrolled 81000000\n".as_slice());
     assert_eq!(rt; left.err.bytes(), b"".as_slice());
     let token = files.get("t").unwrap_or(&[]).to_vec(alloc)?;
@@ -263,7 +263,7 @@ fn keeps_a_drawn_key_in_the_state_file(rt: HostRuntime) -> Result<(), Fail> {
     assert!(rt; !has_part(&token, &WORD) && !has_part(&token, WORD_TEXT));
     let kept = left.state.get(STATE).unwrap_or(&[]).to_vec(alloc)?;
     assert!(rt; has_part(&kept, &WORD));
-    let left = ran(
+    let left = run_over(
         alloc,
         &["unseal", "--token", "t"],
         &mut files,
