@@ -53,7 +53,7 @@ fn lines(alloc: Global, count: u32) -> anyhow::Result<usize> {
     let text = script(alloc, count)?;
     files.put("script", text.as_bytes())?;
     drop(text);
-    let mut tpm = SoftTpm::new(State::fresh(alloc, ALL_BANKS)?, List::new(alloc));
+    let mut tpm = SoftTpm::new(State::fresh(alloc, ALL_BANKS), List::new(alloc));
     let mut entropy = ListEntropy::new(List::new(alloc), List::new(alloc));
     let mut out = RealSink::new(io::sink());
     let mut err = MemSink::new(alloc, List::new(alloc));
