@@ -2,3 +2,7 @@
 //! with the world around it, an object that is bound to one value of one PCR gives its bytes only
 //! while the PCR holds that value, whoever sent which command.
 #![tactic(auto)]
+
+mod stepping;
+
+pub use crate::stepping::step_all;
