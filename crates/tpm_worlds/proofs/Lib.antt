@@ -1,0 +1,17 @@
+pub mod Ties
+pub mod Cases
+pub mod AfterCommand
+pub mod OnePcr
+pub mod SameStrings
+pub mod Trails
+pub mod Sessions
+pub mod SessionsAfter
+pub mod Opened
+pub mod Steady
+pub mod EachUnseal
+pub mod CommandLists
+pub mod Fresh
+pub mod Members
+pub mod IndexPlaces
+pub mod Indices
+pub mod IndicesAfter
