@@ -19,7 +19,7 @@ use Rattle.pcrlock_tpm.specs.Extend.{extend_world}
 use Rattle.pcrlock_seal.specs.EnrollWorld.{enroll_world}
 use Rattle.pcrlock_run.specs.Lines.{lines_of, line_count}
 use Rattle.pcrlock_run.specs.Script.{line, unseal_outcome, can_boot}
-use Rattle.pcrlock_run.specs.Whole.{script_bytes_limit, script_lines_limit}
+use Rattle.pcrlock_run.specs.Whole.{Scripted, script_in, script_bytes_limit, script_lines_limit}
 
 -- the world after an enrolling under a PCR
 abbrev pub enrolled_world : Option (List ℕ) → Option ℕ → Bank → Machine → World → World
@@ -41,7 +41,8 @@ command_world state (requests.Cel firmware user) m w = w
 command_world state (requests.ListComponents folders) m w = w
 command_world state (requests.TpmBoot firmware user locality banks) m w = if can_boot locality banks then booted_world locality banks (logs_of m.files firmware user) m w else w
 command_world state (requests.Log firmware user folders bank) m w = w
-command_world state (requests.TpmExec commands) m w = w
+command_world state (requests.Predict firmware user folders location pcr bank joint) m w = w
+command_world state (requests.TpmExec commands) m w = executed_world commands m w
 command_world state (requests.Script file policy index) m w = w
 
 -- the world after words that spell a request, or none
@@ -68,17 +69,14 @@ lines_run content.Missing = []
 lines_run (content.TooLarge size) = []
 lines_run (content.Bytes bytes) = if nat_lt (utf8_valid_len bytes) (length bytes) then [] else text_lines bytes
 
+-- the world after a request that runs this script, or none
+abbrev pub world_as : List ℕ → Option Scripted → Request → Machine → World → World
+world_as state None request m w = command_world state request m w
+world_as state (Some script) request m w = script_world state script.policy (lines_run (content_of m.files script.file script_bytes_limit)) m w
+
 -- the world after a request
 abbrev pub request_world : List ℕ → Request → Machine → World → World
-request_world state (requests.Script file policy index) m w = script_world state policy (lines_run (content_of m.files file script_bytes_limit)) m w
-request_world state (requests.Enroll token policy key literal bank) m w = command_world state (requests.Enroll token policy key literal bank) m w
-request_world state (requests.Unseal token policy) m w = command_world state (requests.Unseal token policy) m w
-request_world state (requests.TpmExtend pcr bytes) m w = command_world state (requests.TpmExtend pcr bytes) m w
-request_world state (requests.Cel firmware user) m w = w
-request_world state (requests.ListComponents folders) m w = w
-request_world state (requests.TpmBoot firmware user locality banks) m w = command_world state (requests.TpmBoot firmware user locality banks) m w
-request_world state (requests.Log firmware user folders bank) m w = command_world state (requests.Log firmware user folders bank) m w
-request_world state (requests.TpmExec commands) m w = command_world state (requests.TpmExec commands) m w
+request_world state request m w = world_as state (script_in request) request m w
 
 abbrev pub spelled_world : List ℕ → Option Request → Machine → World → World
 spelled_world state None m w = w
