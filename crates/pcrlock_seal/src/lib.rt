@@ -1,4 +1,4 @@
-//! The commands that seal keys and open them: `enroll` and `unseal`.
+//! The command that seals keys: `enroll`.
 #![tactic(auto)]
 
 mod enrolling;

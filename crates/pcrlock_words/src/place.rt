@@ -4,7 +4,7 @@ use std::fmt;
 /// Where a file, a folder or a state breaks its rules.
 #[derive(Debug, Drop)]
 pub enum Place {
-    /// At a byte, a line or a record, counted from 0 or 1 as the format of the file says.
+    /// At a byte, a line or a record, counted from 0.
     At(u64),
     /// The whole is no JSON text.
     Json,

@@ -1,10 +1,12 @@
 //! A TPM in memory.
-ghost use Rattle.std.specs.Prelude.{◌≡◌, ℕ, Bool, true, false, ◌≢◌, Option, Some, is_ok, IsOk, Err, IfOk, IfSome};
-ghost use Rattle.pl_base.specs.Calls.{FollowsPlan};
+ghost use Rattle.std.specs.Prelude.{◌≡◌, ℕ, Bool, true, false, if◌then◌else◌, ◌≢◌, Option, Some, is_ok, IsOk, Err, IfOk, IfErr, IfSome};
+ghost use Rattle.pl_base.specs.Calls.{FollowsPlan, planned};
 ghost use Rattle.pl_base.specs.Faults.{HasCause};
 ghost use Rattle.tpm_model.specs.declared.parts.Parts.{Parts};
 ghost use Rattle.tpm_model.specs.Fits.{fits};
+ghost use Rattle.tpm_model.specs.Respond.{respond};
 ghost use Rattle.tpm_model.specs.Rules.{HasRules};
+ghost use Rattle.tpm_model.specs.Taking.{takes_memory};
 ghost use Rattle.tpm_device.specs.Stored.{Stored, Holds, BeginGives, ExecuteGives, ExecuteStores, stays_ready};
 
 use crate::{BeginError, ExecError, Tpm};
@@ -51,6 +53,7 @@ impl SoftTpm {
         ensures fitting { IfOk result (λ answer. fits command.now answer ≡ true) }
         ensures same { (self.new.calls ≡ self.old.calls) × (self.new.ready ≡ self.old.ready) }
         ensures rules { HasRules self.new.state }
+        ensures taking { IfErr result (λ _. takes_memory command.now ≡ true) }
     {
         let Ok(response) = step(alloc, &mut self.state, command) else {
             return Err(ExecError::Memory);
@@ -74,6 +77,8 @@ impl Tpm for SoftTpm {
         ensures told { (kept : Stored) → Some (Holds self.old.state) ≡ Some kept → BeginGives kept result (Some self.new.state) }
         ensures same { Some (Holds self.new.state) ≡ Some (Holds self.old.state) }
         ensures plan { FollowsPlan self.old.calls self.new.calls (result ≡ Err BeginError.Failed) (IsOk result) }
+        // It has no other refusal than a planned failure.
+        ensures refusal { IfErr result (λ error. error ≡ BeginError.Failed) }
     {
         match self.schedule.next_call() {
             None => {
@@ -101,6 +106,10 @@ impl Tpm for SoftTpm {
         ensures rules { (s : Parts) → Some self.old.state ≡ Some s → HasRules s → IfSome (Some self.new.state) HasRules }
         ensures stored { (s : Parts) → Some self.old.state ≡ Some s → Some (Holds self.old.state) ≡ Some (Holds s) → ExecuteStores command.now s result (Some (Holds self.new.state)) }
         ensures plan { FollowsPlan self.old.calls self.new.calls (result ≡ Err ExecError.Failed) (IsOk result) }
+        // Memory runs out only for a command that takes some.
+        ensures taking { result ≡ Err ExecError.Memory → takes_memory command.now ≡ true }
+        // A planned failure comes after the command took effect where `done` holds, and else before.
+        ensures done { IfSome (planned self.old.calls) (λ fail. result ≡ Err ExecError.Failed → self.new.state ≡ (if fail.done then (respond command.now self.old.state).1 else self.old.state)) }
     {
         match self.schedule.next_call() {
             None => self.step(alloc, command),

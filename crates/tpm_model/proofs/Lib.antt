@@ -3,6 +3,7 @@ pub mod Places
 pub mod Starts
 pub mod Handles
 pub mod TrailSteps
+pub mod Unused
 pub mod KeepsRules
 pub mod AnswersFit
 pub mod FromParts

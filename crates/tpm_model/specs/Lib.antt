@@ -14,6 +14,7 @@ pub mod SessionCommands
 pub mod ObjectCommands
 pub mod IndexCommands
 pub mod Respond
+pub mod Taking
 pub mod Fits
 pub mod Fresh
 pub mod Binding

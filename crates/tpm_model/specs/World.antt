@@ -1,7 +1,7 @@
 -- What the program and all others have done to a TPM, as data.
-use Rattle.std.specs.Prelude.{ℕ, List, ◌++◌, Contains, Option}
+use Rattle.std.specs.Prelude.{ℕ, List, [], ◌++◌, Contains, Option, None}
 use Rattle.std.specs.Ordering.{nat_cmp}
-use Rattle.std.specs.FinMap.{FinMap, insert}
+use Rattle.std.specs.FinMap.{FinMap, empty, insert}
 use Rattle.hash_bank.specs.declared.banks.Banks.{Banks}
 use Rattle.hash_bank.specs.HashedString.{HashedString}
 use Rattle.policy_digest.specs.PlainTable.{PlainTable}
@@ -45,6 +45,20 @@ pub record World : Type 0 where
   pub objects : FinMap nat_cmp BoundObject
   pub filed : Option FiledPolicy
   pub hashed : List HashedString
+
+-- nothing was done yet to a TPM with these banks and values
+abbrev pub unused_world : Banks → List (List ℕ) → World
+unused_world banks pcrs = record {
+  banks = banks;
+  pcrs = pcrs;
+  live = empty;
+  writes = [];
+  pins = [];
+  strange = [];
+  objects = empty;
+  filed = None;
+  hashed = [];
+}
 
 -- a PCR was extended: the world follows the state
 abbrev pub extended_world : Parts → World → World

@@ -7,6 +7,9 @@ ghost use Rattle.tpm_model.specs.Respond.{respond};
 ghost use Rattle.tpm_model.specs.Fresh.{fresh_parts};
 ghost use Rattle.tpm_model.specs.Rules.{HasRules, broken_rule as broken_rule_of};
 ghost use Rattle.tpm_model.specs.Shape.{HasShape};
+ghost use Rattle.tpm_model.specs.Taking.{takes_memory};
+ghost use Rattle.tpm_model.specs.Tied.{Tied};
+ghost use Rattle.tpm_model.specs.World.{unused_world};
 
 use crate::held::Held;
 use crate::index_commands::{
@@ -50,7 +53,9 @@ impl State {
     /// takes no memory.
     pub fn fresh(alloc: Global, banks: Banks) -> State
         requires { 1 ≤ bank_count banks }
-        ensures { result ≡ fresh_parts banks }
+        ensures value { result ≡ fresh_parts banks }
+        // The world in which nothing was done is tied to it.
+        ensures tied { Tied result (unused_world banks (fresh_parts banks).pcrs) }
     {
         State {
             held: Held {
@@ -200,6 +205,7 @@ fn step_held(alloc: Global, held: &mut Held, command: &Command) -> Result<Respon
     ensures ok { IfOk result (λ answer. (answer, parts_of held.new) ≡ respond command.now (parts_of held.old)) }
     ensures err { OnErr result (parts_of held.new ≡ parts_of held.old) }
     ensures rules { HasRules (parts_of held.new) }
+    ensures memory { IfErr result (λ _. takes_memory command.now ≡ true) }
 {
     match *command {
         Command::Restart { locality, banks } => Ok(restarted(alloc, held, locality, banks)),
@@ -235,6 +241,7 @@ pub fn step(alloc: Global, state: &mut State, command: &Command) -> Result<Respo
     ensures err { OnErr result (state.new ≡ state.old) }
     ensures rules { HasRules state.old × HasRules state.new }
     ensures fitting { IfOk result (λ answer. fits command.now answer ≡ true) }
+    ensures memory { IfErr result (λ _. takes_memory command.now ≡ true) }
 {
     step_held(alloc, &mut state.held, command)
 }
