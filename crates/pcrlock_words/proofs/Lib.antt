@@ -6,3 +6,4 @@ pub mod ParserReads
 pub mod ParserSet
 pub mod WindowLemmas
 pub mod Lists
+pub mod Ranges
