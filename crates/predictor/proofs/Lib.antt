@@ -1,5 +1,6 @@
 pub mod Repeats
 pub mod Puttings
+pub mod StateKeys
 pub mod Growth
 pub mod Spreads
 pub mod Insides

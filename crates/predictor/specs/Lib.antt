@@ -1,6 +1,7 @@
 pub mod Ends
 pub mod Reads
 pub mod Distinct
+pub mod StateOrder
 pub mod Cuts
 pub mod States
 pub mod Foreseen

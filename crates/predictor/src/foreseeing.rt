@@ -12,6 +12,7 @@ ghost use Rattle.predictor.specs.Spread.{stopped_at};
 
 use crate::error::ForeseeError;
 use crate::reading::inside;
+use crate::seen::Distinct;
 use crate::spreading::{Stop, put_cut, start_state, step};
 use crate::window::Window;
 use component_tree::{Component, Tree};
@@ -49,7 +50,7 @@ fn spread(
 {
     let mut states = List::new(alloc);
     states.push(start_state(alloc, bank, locality, pcrs)?)?;
-    let mut reached = List::new(alloc);
+    let mut reached = Distinct::new(alloc);
     match put_cut(alloc, &mut reached, states.as_slice(), first == 0) {
         Ok(()) => {}
         Err(stop) => return Err(stopped(stop, 0)),
@@ -71,7 +72,7 @@ fn spread(
             Err(stop) => return Err(stopped(stop, cut as u32)),
         }
     }
-    Ok(reached)
+    Ok(reached.into_list())
 }
 
 /// The components inside the window's end, which are the tree's first ones.

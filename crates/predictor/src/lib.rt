@@ -8,7 +8,9 @@ mod foreseeing;
 mod protecting;
 mod protection;
 mod reading;
+mod seen;
 mod spreading;
+mod state_key;
 mod window;
 
 pub use error::{ForeseeError, ProtectError, WindowError};

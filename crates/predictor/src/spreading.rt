@@ -1,7 +1,6 @@
 //! The states that several PCRs may have together, each kept once, component after component.
-ghost use Rattle.std.specs.Prelude.{◌≡◌, ◌+◌, ◌<◌, ◌≤◌, [], map, length, true, if◌then◌else◌, IfOk, OnOk};
-ghost use Rattle.std.specs.Bool.{OnTrue};
-ghost use Rattle.std.specs.List.{All, list_any};
+ghost use Rattle.std.specs.Prelude.{◌≡◌, ◌+◌, ◌<◌, ◌≤◌, [], map, length, if◌then◌else◌, IfOk, OnOk};
+ghost use Rattle.std.specs.List.{All};
 ghost use Rattle.hash_bank.specs.Hash.{size_in};
 ghost use Rattle.hash_bank.specs.Extending.{start_of};
 ghost use Rattle.cel_record.specs.Spelled.{spelled};
@@ -9,10 +8,10 @@ ghost use Rattle.component_tree.specs.PlainTree.{plain, plain_variant};
 ghost use Rattle.pcr_replay.specs.Measured.{extended_by};
 ghost use Rattle.policy_digest.specs.Table.{values_eq};
 ghost use Rattle.record_match.specs.Extends.{digests_in};
-ghost use Rattle.predictor.specs.Distinct.{put};
 ghost use Rattle.predictor.specs.Foreseen.{value_limit};
 ghost use Rattle.predictor.specs.Spread.{extended_state, next_states, IsState, Puts, Collects};
 
+use crate::seen::Distinct;
 use cel_record::CelRecord;
 use component_tree::Variant;
 use hash_bank::{Bank, Digest, extend, start};
@@ -96,44 +95,6 @@ fn next_state(
     }
 }
 
-/// Whether the values are in the list.
-fn is_listed(list: &[Values], values: &Values) -> bool
-    ensures { result ≡ list_any (values_eq values.now) list.now }
-{
-    list.iter().any(|held| values.is_same(held))
-}
-
-/// Whether the values are the list's last ones. Variants that measure the same into the PCRs, or
-/// nothing, give the same values one after the other, so this is asked before the whole list.
-fn is_last(list: &[Values], values: &Values) -> bool
-    ensures { OnTrue result (list_any (values_eq values.now) list.now ≡ true) }
-{
-    match list.last() {
-        Some(last) => values.is_same(last),
-        None => false,
-    }
-}
-
-/// Puts the values at the end of the list, unless they are there.
-fn put_new(list: &mut List<Values>, values: Values) -> Result<(), Memory>
-    ensures { OnOk result (list.new ≡ put values_eq list.old values) }
-{
-    if is_last(list.as_slice(), &values) || is_listed(list.as_slice(), &values) {
-        return Ok(());
-    }
-    list.push(values)
-}
-
-/// Puts a copy of the values at the end of the list, unless they are there.
-fn put_copy(alloc: Global, list: &mut List<Values>, values: &Values) -> Result<(), Memory>
-    ensures { OnOk result (list.new ≡ put values_eq list.old values.now) }
-{
-    if is_listed(list.as_slice(), values) {
-        return Ok(());
-    }
-    list.push(values.copy(alloc)?)
-}
-
 /// Puts the state after each of the variants to the list.
 fn put_after(
     alloc: Global,
@@ -141,7 +102,7 @@ fn put_after(
     pcrs: &[u8],
     state: &Values,
     variants: &[Variant],
-    list: &mut List<Values>,
+    list: &mut Distinct,
 ) -> Result<(), Stop>
     requires some { 1 ≤ length pcrs.now }
     requires few { length pcrs.now ≤ 24 }
@@ -159,7 +120,7 @@ fn put_after(
             state.as_slice(),
             variant.records.as_slice(),
         ) {
-            Ok(next) => match put_new(list, next) {
+            Ok(next) => match list.put(alloc, next) {
                 Ok(()) => {}
                 Err(_) => return Err(Stop::Memory),
             },
@@ -186,20 +147,20 @@ pub(crate) fn step(
     ensures collects { Collects result (next_states bank pcrs.now (map plain_variant variants.now) states.now) }
     ensures all_fit { IfOk result (λ list. All (IsState bank (length pcrs.now)) list) }
 {
-    let mut list = List::new(alloc);
+    let mut list = Distinct::new(alloc);
     for state in states {
         match put_after(alloc, bank, pcrs, state, variants, &mut list) {
             Ok(()) => {}
             Err(stop) => return Err(stop),
         }
     }
-    Ok(list)
+    Ok(list.into_list())
 }
 
 /// Puts the states to the list, if they stand at a cut of the window.
 pub(crate) fn put_cut(
     alloc: Global,
-    list: &mut List<Values>,
+    list: &mut Distinct,
     states: &[Values],
     is_cut: bool,
 ) -> Result<(), Stop>
@@ -210,7 +171,7 @@ pub(crate) fn put_cut(
         return Ok(());
     }
     for state in states {
-        match put_copy(alloc, list, state) {
+        match list.put_copy(alloc, state) {
             Ok(()) => {}
             Err(_) => return Err(Stop::Memory),
         }

@@ -31,17 +31,23 @@ fn begins_with(list: &[Digest], digests: &[Digest]) -> bool
     true
 }
 
-/// Whether the list begins with the digests, and the place behind them is noted.
+/// Whether the place is there and is noted.
+fn is_noted(noted: &[bool], place: usize) -> bool
+    ensures { result ≡ slice_index_or noted.now place false }
+{
+    place < noted.len() && noted[place]
+}
+
+/// Whether the list begins with the digests, and the place behind them is noted. The place is asked
+/// for first, as that is quick and few are noted.
 fn leads(digests: &[Digest], list: &[Digest], noted: &[bool]) -> bool
-    requires { length noted.now ≡ length list.now + 1 }
     ensures { result ≡ leads_on list.now noted.now digests.now }
 {
-    begins_with(list, digests) && noted[digests.len()]
+    is_noted(noted, digests.len()) && begins_with(list, digests)
 }
 
 /// The first of the alternatives with which the list begins so that the place behind it is noted.
 fn first_leading(alternatives: &[List<Digest>], list: &[Digest], noted: &[bool]) -> Option<usize>
-    requires { length noted.now ≡ length list.now + 1 }
     ensures value { result ≡ position_from (leads_on list.now noted.now) 0 alternatives.now }
     ensures bound { IfSome result (λ v. v < length alternatives.now) }
 {

@@ -3,7 +3,7 @@ use Rattle.std.specs.List.{list_any}
 use Rattle.std.proofs.lemmas.Bool.{OnTrue_from}
 use Rattle.policy_digest.specs.Table.{values_eq}
 use Rattle.predictor.proofs.Repeats.{any_at}
-use Rattle.predictor.proofs.spreading.is_last.Goals as goal
+use Rattle.predictor.proofs.seen.is_last.Goals as goal
 
 pub returns-in-Some : goal.returns-in-Some
 returns-in-Some c =
