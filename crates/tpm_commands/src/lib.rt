@@ -10,6 +10,8 @@ mod group;
 mod line;
 mod parts;
 mod response;
+#[cfg(test)]
+mod tests;
 mod values;
 mod verb;
 mod words;
