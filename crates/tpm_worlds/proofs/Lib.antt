@@ -1,0 +1,12 @@
+pub mod Ties
+pub mod Cases
+pub mod AfterCommand
+pub mod OnePcr
+pub mod SameStrings
+pub mod Trails
+pub mod Sessions
+pub mod SessionsAfter
+pub mod Opened
+pub mod Steady
+pub mod EachUnseal
+pub mod CommandLists

@@ -1,0 +1,3 @@
+pub mod SealedTie
+pub mod CommandLists
+pub mod EventLists
