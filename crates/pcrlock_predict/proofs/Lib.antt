@@ -1,0 +1,3 @@
+pub mod PcrReads
+pub mod Left
+pub mod Ended
