@@ -10,7 +10,7 @@ use Rattle.pcrlock_line.specs.declared.stop.Stop.{Stop}
 use Rattle.pcrlock_line.specs.declared.stop.Stop.TheVariants as stop
 use Rattle.pcrlock_line.specs.Causes.{Counts, HasCauses, IsCaused}
 use Rattle.pcrlock_line.specs.Machine.{Machine, Tells}
-use Rattle.pcrlock_line.specs.Outcome.{Gives, ending_of}
+use Rattle.pcrlock_line.specs.Outcome.{Ending, Refused, Gives, ending_of}
 use Rattle.pcrlock_line.proofs.Composed.{then, on_tpm}
 use Rattle.pcrlock_input.specs.Answering.{◌>>=◌}
 use Rattle.pcrlock_predict.specs.Printed.{printed, printed_line}
@@ -53,3 +53,14 @@ gives_found held stored words m found x work (Ok reply) is tells h = record {
   tells = tells;
 }
 gives_found held stored words m found x work (Err stopped) is tells h = tt
+
+-- the reply is the work's on what was read
+pub reply_found : {X : Type 0} (found : Result X Answer) (x : X) (work : X → Result (List ℕ) Answer) (result : Result Reply Stop) → Ok x ≡ found
+    → IfOk result (λ reply. ending_of reply ≡ printed (work x)) → IfOk result (λ reply. ending_of reply ≡ printed (found >>= work))
+reply_found found x work (Ok reply) is h = h ∙ ap (λ f. printed (f >>= work)) is
+reply_found found x work (Err stopped) is h = tt
+
+-- nothing was read
+pub reply_refused : {X : Type 0} (found : Result X Answer) (answer : Answer) (work : X → Result (List ℕ) Answer) → Err answer ≡ found
+    → Refused answer ≡ printed (found >>= work)
+reply_refused found answer work is = ap (λ f. printed (f >>= work)) is

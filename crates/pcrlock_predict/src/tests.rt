@@ -113,7 +113,7 @@ fn prints_what_is_foreseen(rt: HostRuntime) -> Result<(), Fail> {
     let user = Name::from_text(alloc, "u")?;
     let folders = folders(alloc)?;
     let Ok(window) = Window::read(alloc, "100-:900-") else {
-        return Ok(());
+        return Err("a good window")?;
     };
     let printed = predict(
         alloc,
