@@ -16,7 +16,9 @@ use Rattle.pl_base.specs.declared.files.ReplaceError.{ReplaceError}
 use Rattle.pl_base.specs.declared.files.ReplaceError.TheVariants as replace
 use Rattle.tpm_model.specs.declared.parts.Parts.{Parts}
 use Rattle.tpm_device.specs.Stored.{Stored, Holds}
-use Rattle.tpm_state.specs.Storing.{all_banks, stored_by, stored_in, StoreLeaves}
+use Rattle.tpm_state.specs.declared.version.Version.TheVariants.{Two}
+use Rattle.tpm_state.specs.Layout.{text_of}
+use Rattle.tpm_state.specs.Storing.{all_banks, stored_by, stored_in, storing, StoreLeaves}
 
 -- the bytes of a path that was set
 pub get_set : (files : FileMap) (path bytes : List ℕ) → get (insert files path bytes) path ≡ Some bytes
@@ -45,13 +47,18 @@ store_leaves before now path bytes r kept told e =
     leaves files (Err replace.Failed) same (inr is) = inr (set files is)
     leaves files (Err replace.Memory) same is = old files same is
 
--- the same, where the path was read, the state before is stored, and the bytes store the next one
-pub stored_after : (before now : Option FileMap) (path read bytes : List ℕ) (r : Result Unit ReplaceError) (s next : Parts) → read ≡ path
-    → ((kept : Stored) → stored_in before read ≡ Some kept → StoreLeaves kept (stored_by (Some bytes)) r (stored_in now read))
-    → stored_by (Some bytes) ≡ Holds next → stored_in before path ≡ Some (Holds s) → StoreLeaves (Holds s) (Holds next) r (stored_in now path)
-stored_after before now path read bytes r s next same leaves is e =
+-- the same, at the path that was read, and of the next state as it is known
+pub stored_next : (before now : Option FileMap) (path read : List ℕ) (r : Result Unit ReplaceError) (s made next : Parts) → read ≡ path → made ≡ next
+    → ((kept : Stored) → stored_in before read ≡ Some kept → StoreLeaves kept (Holds made) r (stored_in now read))
+    → stored_in before path ≡ Some (Holds s) → StoreLeaves (Holds s) (Holds next) r (stored_in now path)
+stored_next before now path read r s made next same is leaves e =
     subst (λ (l : List ℕ). StoreLeaves (Holds s) (Holds next) r (stored_in now l)) same
-    (subst (λ (kept : Stored). StoreLeaves (Holds s) kept r (stored_in now read)) is (leaves (Holds s) (ap (stored_in before) same ∙ e)))
+    (subst (λ (n : Parts). StoreLeaves (Holds s) (Holds n) r (stored_in now read)) is (leaves (Holds s) (ap (stored_in before) same ∙ e)))
+
+pub text_next : (files : FileMap) (now : Option FileMap) (path read : List ℕ) (r : Result Unit ReplaceError) (made next : Parts) → read ≡ path → made ≡ next
+    → ReplaceLeaves files (insert files read (text_of Two made)) r now → ReplaceLeaves files (storing files path next) r now
+text_next files now path read r made next same is leaves =
+    subst (λ (l : List ℕ). ReplaceLeaves files (storing files l next) r now) same (subst (λ (n : Parts). ReplaceLeaves files (storing files read n) r now) is leaves)
 
 pub is_live : (live : Option Parts) (a b : Parts) → live ≡ Some a → live ≡ Some b → a ≡ b
 is_live live a b p q = some_is a b (sym p ∙ q)

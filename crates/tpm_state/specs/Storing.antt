@@ -1,18 +1,23 @@
 -- What a file stores, as a TPM that is kept in it tells.
-use Rattle.std.specs.Prelude.{◌≡◌, ◌⊎◌, ℕ, nat_lt, true, if◌then◌else◌, List, length, Option, Some, None, Result, Ok, Err}
-use Rattle.std.specs.FinMap.{get}
+use Rattle.std.specs.Prelude.{◌≡◌, ◌≢◌, ◌⊎◌, ℕ, nat_lt, true, if◌then◌else◌, List, length, Option, Some, None, Result, Ok, Err}
+use Rattle.std.specs.FinMap.{get, insert}
 use Rattle.hash_bank.specs.declared.banks.Banks.{Banks}
 use Rattle.pl_base.specs.FileMap.{FileMap}
 use Rattle.pl_base.specs.declared.files.ReplaceError.{ReplaceError}
 use Rattle.pl_base.specs.declared.files.ReplaceError.TheVariants as replace
 use Rattle.tpm_model.specs.declared.parts.Parts.{Parts}
 use Rattle.tpm_model.specs.Fresh.{fresh_parts}
+use Rattle.tpm_model.specs.declared.response.Response.{Response}
 use Rattle.tpm_device.specs.declared.device.BeginError.{BeginError}
 use Rattle.tpm_device.specs.declared.device.BeginError.TheVariants as begin
+use Rattle.tpm_device.specs.declared.device.ExecError.{ExecError}
+use Rattle.tpm_device.specs.declared.device.ExecError.TheVariants as exec
 use Rattle.tpm_device.specs.Stored.{Stored, Holds, TooLarge, Malformed, BadRule}
 use Rattle.tpm_state.specs.declared.error.DecodeError.{DecodeError}
 use Rattle.tpm_state.specs.declared.error.DecodeError.TheVariants as decode
+use Rattle.tpm_state.specs.declared.version.Version.TheVariants.{Two}
 use Rattle.tpm_state.specs.Decoding.{state_of}
+use Rattle.tpm_state.specs.Layout.{text_of}
 
 -- the most bytes of a state file
 abbrev pub most_bytes : ℕ
@@ -52,3 +57,14 @@ abbrev pub StoreLeaves : Stored → Stored → Result Unit ReplaceError → Opti
 StoreLeaves kept next (Ok _) now = now ≡ Some next
 StoreLeaves kept next (Err replace.Failed) now = (now ≡ Some kept) ⊎ (now ≡ Some next)
 StoreLeaves kept next (Err replace.Memory) now = now ≡ Some kept
+
+-- the files with the text of a state at the path
+abbrev pub storing : FileMap → List ℕ → Parts → FileMap
+storing files path s = insert files path (text_of Two s)
+
+-- the files after a command that leads from a state to the next one: nothing is written where they are
+-- equal; no other file changes
+abbrev pub StoresText : FileMap → List ℕ → Parts → Parts → Result Response ExecError → Option FileMap → Type 0
+StoresText files path s next (Ok answer) now = (next ≡ s → now ≡ Some files) × (next ≢ s → now ≡ Some (storing files path next))
+StoresText files path s next (Err exec.Failed) now = (now ≡ Some files) ⊎ (now ≡ Some (storing files path next))
+StoresText files path s next (Err exec.Memory) now = now ≡ Some files

@@ -1,7 +1,8 @@
 //! A TPM that is kept in a file.
-ghost use Rattle.std.specs.Prelude.{◌≡◌, ◌≢◌, ◌⊎◌, ◌≤◌, ◌↔◌, ℕ, Bool, true, false, Option, None, Some, is_some, is_ok, Ok, Err, IfOk, IfSome, length, MatchOption};
-ghost use Rattle.std.specs.FinMap.{get};
+ghost use Rattle.std.specs.Prelude.{◌≡◌, ◌≢◌, ◌⊎◌, ◌≤◌, ◌↔◌, ℕ, Bool, true, false, Option, None, Some, is_some, is_ok, Ok, Err, IfOk, IfErr, IfSome, length, MatchOption};
+ghost use Rattle.std.specs.FinMap.{get, insert};
 ghost use Rattle.pl_base.specs.Faults.{HasCause};
+ghost use Rattle.pl_base.specs.FileAnswers.{ReplaceLeaves};
 ghost use Rattle.pl_base.specs.FileMap.{FileMap};
 ghost use Rattle.tpm_model.specs.declared.parts.Parts.{Parts};
 ghost use Rattle.tpm_model.specs.Fits.{fits};
@@ -12,9 +13,10 @@ ghost use Rattle.tpm_device.specs.Stored.{Stored, Holds, BeginGives, ExecuteGive
 ghost use Rattle.tpm_state.specs.declared.version.Version.TheVariants.{Two};
 ghost use Rattle.tpm_state.specs.Layout.{text_of};
 ghost use Rattle.tpm_state.specs.Decoding.{state_of};
-ghost use Rattle.tpm_state.specs.Storing.{all_banks, stored_as, stored_by, stored_in, StateGives, StoreLeaves};
+ghost use Rattle.tpm_state.specs.Storing.{all_banks, stored_as, stored_by, stored_in, StateGives, StoreLeaves, StoresText};
 
-use crate::{DecodeError, decode, encode};
+use crate::kept::Kept;
+use crate::{DecodeError, decode};
 use hash_bank::Banks;
 use pl_base::{Files, Memory, Name, ReadError, ReplaceError};
 use std::alloc::Global;
@@ -29,7 +31,7 @@ const LIMIT: u64 = 16_777_216;
 pub struct FileTpm<F: Files> {
     files: F,
     path: Name,
-    live: Option<State>,
+    live: Option<Kept>,
 }
 
 impl<F: Files> FileTpm<F> {
@@ -73,58 +75,58 @@ fn state_in(alloc: Global, bytes: &[u8]) -> Result<State, BeginError>
     }
 }
 
-/// The state that the file at the path stores.
-fn stored_state<F: Files>(files: &mut F, alloc: Global, path: &str) -> Result<State, BeginError>
+/// The state beside its text.
+fn with_text(alloc: Global, state: State) -> Result<Kept, BeginError>
+    ensures told { IfOk result (λ kept. kept ≡ state) }
+    ensures fine { IfErr result (λ error. error ≡ BeginError.Memory) }
+{
+    match Kept::new(alloc, state) {
+        Ok(kept) => Ok(kept),
+        Err(_) => Err(BeginError::Memory),
+    }
+}
+
+/// The state that the file at the path stores, beside its text.
+fn stored_state<F: Files>(files: &mut F, alloc: Global, path: &str) -> Result<Kept, BeginError>
     ensures cause { HasCause (F.faults files.old) (F.faults files.new) (result ≡ Err BeginError.Failed) }
     ensures told { (map : FileMap) → F.held files.old ≡ Some map → StateGives (stored_by (get map path.now)) result }
     ensures same { F.held files.new ≡ F.held files.old }
 {
     match files.read(alloc, path, LIMIT) {
-        Ok(bytes) => state_in(alloc, bytes.as_slice()),
-        Err(ReadError::Missing) => Ok(fresh_state(alloc)),
+        Ok(bytes) => match state_in(alloc, bytes.as_slice()) {
+            Ok(state) => with_text(alloc, state),
+            Err(error) => Err(error),
+        },
+        Err(ReadError::Missing) => with_text(alloc, fresh_state(alloc)),
         Err(ReadError::TooLarge(size)) => Err(BeginError::TooLarge(size)),
         Err(ReadError::Failed) => Err(BeginError::Failed),
         Err(ReadError::Memory) => Err(BeginError::Memory),
     }
 }
 
-/// One step on a copy of a state: the answer and the next state.
-fn next_state(alloc: Global, live: &State, command: &Command) -> Result<(Response, State), Memory>
+/// One step on a copy of a state: the answer and the next state, beside its text.
+fn next_state(alloc: Global, live: &State, command: &Command) -> Result<(Response, Kept), Memory>
     ensures value { IfOk result (λ next. next ≡ respond command.now live.now) }
     ensures fitting { IfOk result (λ next. fits command.now next.0 ≡ true) }
     ensures rules { IfOk result (λ next. HasRules next.1) }
 {
     let mut next = live.copy(alloc)?;
     let response = step(alloc, &mut next, command)?;
-    Ok((response, next))
+    Ok((response, Kept::new(alloc, next)?))
 }
 
-/// The text of the next state, where it isn't the live one.
-fn changed_text(alloc: Global, live: &State, next: &State) -> Result<Option<Vec<u8>>, Memory>
-    ensures same { IfOk result (λ text. text ≡ None → next.now ≡ live.now) }
-    ensures stored { IfOk result (λ text. IfSome text (λ bytes. stored_by (Some bytes.items) ≡ Holds next.now)) }
-    ensures other { next.now ≡ live.now → IfOk result (λ text. text ≡ None) }
-{
-    let before = encode(alloc, live)?;
-    let after = encode(alloc, next)?;
-    if before.as_slice() == after.as_slice() {
-        Ok(None)
-    } else {
-        Ok(Some(after))
-    }
-}
-
-/// Stores a text at the path.
+/// Stores a state at the path.
 fn store<F: Files>(
     files: &mut F,
     alloc: Global,
     path: &str,
-    text: &[u8],
+    next: &Kept,
 ) -> Result<(), ReplaceError>
     ensures cause { HasCause (F.faults files.old) (F.faults files.new) (result ≡ Err ReplaceError.Failed) }
-    ensures stored { (kept : Stored) → stored_in (F.held files.old) path.now ≡ Some kept → StoreLeaves kept (stored_by (Some text.now)) result (stored_in (F.held files.new) path.now) }
+    ensures stored { (kept : Stored) → stored_in (F.held files.old) path.now ≡ Some kept → StoreLeaves kept (Holds next.now) result (stored_in (F.held files.new) path.now) }
+    ensures files { (map : FileMap) → F.held files.old ≡ Some map → ReplaceLeaves map (insert map path.now (text_of Two next.now)) result (F.held files.new) }
 {
-    files.replace(alloc, path, text)
+    files.replace(alloc, path, next.text())
 }
 
 impl<F: Files> Tpm for FileTpm<F> {
@@ -169,21 +171,20 @@ impl<F: Files> Tpm for FileTpm<F> {
         ensures stored { (s : Parts) → self.old.live ≡ Some s → stored_in (F.held self.old.files) self.old.path ≡ Some (Holds s) → ExecuteStores command.now s result (stored_in (F.held self.new.files) self.new.path) }
         // A command that leaves an equal state writes nothing, and the TPM stays in its file.
         ensures quiet { (s : Parts) → self.old.live ≡ Some s → (respond command.now s).1 ≡ s → F.held self.new.files ≡ F.held self.old.files }
+        // Else the file holds the text of the next state in version 2; no other file changes.
+        ensures files { (s : Parts) (map : FileMap) → self.old.live ≡ Some s → F.held self.old.files ≡ Some map → StoresText map self.old.path s (respond command.now s).1 result (F.held self.new.files) }
         ensures path { self.new.path ≡ self.old.path }
     {
         let Some(live) = &self.live else {
             unreachable!()
         };
-        let Ok((response, next)) = next_state(alloc, live, command) else {
+        let Ok((response, next)) = next_state(alloc, live.state(), command) else {
             return Err(ExecError::Memory);
         };
-        let Ok(text) = changed_text(alloc, live, &next) else {
-            return Err(ExecError::Memory);
-        };
-        let Some(text) = text else {
+        if live.is_same(&next) {
             return Ok(response);
-        };
-        match store(&mut self.files, alloc, self.path.text(), text.as_slice()) {
+        }
+        match store(&mut self.files, alloc, self.path.text(), &next) {
             Ok(()) => {
                 self.live = Some(next);
                 Ok(response)

@@ -10,6 +10,7 @@ mod field;
 mod file_tpm;
 mod header;
 mod indices;
+mod kept;
 mod layout;
 mod objects;
 mod sessions;

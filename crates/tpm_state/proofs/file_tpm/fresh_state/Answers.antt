@@ -9,4 +9,4 @@ pub fresh-requires : goal.fresh-requires
 fresh-requires c = rw (banks_all c.all.result c.all.ensures) (omega arith)
 
 pub returns : goal.returns
-returns c = c.fresh.ensures ∙ ap fresh_parts (banks_all c.all.result c.all.ensures)
+returns c = c.fresh.ensures.value ∙ ap fresh_parts (banks_all c.all.result c.all.ensures)
