@@ -1,6 +1,7 @@
 -- The lines of `log`: what was measured, and each PCR as it is replayed and as it is now.
-use Rattle.std.specs.Prelude.{ℕ, ◌+◌, ◌==◌, if◌then◌else◌, List, [], ◌∷◌, ◌++◌, map, flat_map, slice_index_or, codes, Option, Some, None, option_map, unwrap_or}
+use Rattle.std.specs.Prelude.{ℕ, ◌+◌, ◌==◌, if◌then◌else◌, List, [], ◌∷◌, ◌++◌, flat_map, slice_get, slice_index_or, codes, Option, Some, None, option_map, unwrap_or}
 use Rattle.std.specs.List.{range_with_len}
+use Rattle.std.specs.Option.{option_map_or}
 use Rattle.std.specs.Str.{bytes_eq}
 use Rattle.std.specs.Fmt.{decimal}
 use Rattle.hex.specs.Hex.{encode_lower}
@@ -22,17 +23,21 @@ or_dash text = unwrap_or text (codes "-")
 abbrev pub digest_text : Option (List ℕ) → List ℕ
 digest_text digest = or_dash (option_map encode_lower digest)
 
--- the name of an event type (TCG PC Client Platform Firmware Profile), or its number in eight digits
+-- the name of an event type (TCG PC Client Platform Firmware Profile), for those that are printed by name
+abbrev pub event_name : ℕ → Option (List ℕ)
+event_name kind =
+    if kind == 3 then Some (codes "EV_NO_ACTION")
+    else if kind == 4 then Some (codes "EV_SEPARATOR")
+    else if kind == 5 then Some (codes "EV_ACTION")
+    else if kind == 0xD then Some (codes "EV_IPL")
+    else if kind == 0x80000003 then Some (codes "EV_EFI_BOOT_SERVICES_APPLICATION")
+    else if kind == 0x80000007 then Some (codes "EV_EFI_ACTION")
+    else if kind == 0x800000E0 then Some (codes "EV_EFI_VARIABLE_AUTHORITY")
+    else None
+
+-- an event type by its name, or else by its number in eight digits
 abbrev pub event_text : ℕ → List ℕ
-event_text kind =
-    if kind == 3 then codes "EV_NO_ACTION"
-    else if kind == 4 then codes "EV_SEPARATOR"
-    else if kind == 5 then codes "EV_ACTION"
-    else if kind == 0xD then codes "EV_IPL"
-    else if kind == 0x80000003 then codes "EV_EFI_BOOT_SERVICES_APPLICATION"
-    else if kind == 0x80000007 then codes "EV_EFI_ACTION"
-    else if kind == 0x800000E0 then codes "EV_EFI_VARIABLE_AUTHORITY"
-    else codes "0x" ++ handle_text kind
+event_text kind = unwrap_or (event_name kind) (codes "0x" ++ handle_text kind)
 
 -- who measured a record
 abbrev pub origin_text : Origin → List ℕ
@@ -41,7 +46,7 @@ origin_text User = codes "user"
 
 -- the id of the component of this number
 abbrev pub id_at : List PlainComponent → ℕ → List ℕ
-id_at components number = slice_index_or (map (λ c. c.id) components) number []
+id_at components number = option_map_or (λ c. c.id) (slice_get components number) []
 
 -- the component that lists a record, or a dash
 abbrev pub lister_text : List PlainComponent → Row → List ℕ

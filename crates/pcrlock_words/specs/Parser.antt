@@ -1,13 +1,13 @@
 -- The parser of a command's options, as `clap` sees it.
-use Rattle.std.specs.Prelude.{ℕ, Bool, true, ◌≡◌, ◌==◌, not, if◌then◌else◌, List, [], ◌∷◌, ◌++◌, length, map, filter, codes, get_or, Option, Some, None}
+use Rattle.std.specs.Prelude.{ℕ, Bool, true, false, ◌≡◌, ◌==◌, not, if◌then◌else◌, List, [], ◌∷◌, ◌++◌, length, map, filter, codes, get_or, Option, Some, None}
 use Rattle.std.specs.Option.{option_map_or}
 use Rattle.clap.specs.Words.{App, Row, Rule, found_of, new_rule, rows_of}
 use Rattle.clap.specs.Simple.{new_shape}
-use Rattle.clap.specs.Facts.{explicit_source}
 use Rattle.clap.specs.declared.builder.action.ArgAction.{ArgAction}
 use Rattle.clap.specs.declared.builder.action.ArgAction.TheVariants.{SetTrue}
 use Rattle.clap.specs.declared.builder.value_parser.Reading.TheVariants as reading
 use Rattle.clap.specs.declared.parser.matches.ArgMatches.{ArgMatches}
+use Rattle.clap.specs.declared.parser.matches.ValueSource.{ValueSource}
 use Rattle.clap.specs.declared.parser.matches.ValueSource.TheVariants.{CommandLine, DefaultValue}
 use Rattle.clap.specs.declared.error.kind.ErrorKind.{ErrorKind}
 use Rattle.clap.specs.declared.error.kind.ErrorKind.TheVariants as kind
@@ -52,9 +52,15 @@ parser_for entries = record empty_parser { top = record empty_parser.top { rules
 abbrev pub is_stray : List ℕ → Bool
 is_stray word = option_map_or (λ name. length name == 0) (undashed word) (is_dashed word)
 
--- whether the words gave what was matched, and not a default
+-- whether a value comes from the words, and not from a default
+abbrev pub is_of_words : Option ValueSource → Bool
+is_of_words (Some CommandLine) = true
+is_of_words (Some DefaultValue) = false
+is_of_words None = false
+
+-- whether the words gave what was matched
 abbrev pub is_from_words : Row → Bool
-is_from_words row = explicit_source row.source
+is_from_words row = is_of_words row.source
 
 -- the options that were matched in the words
 abbrev pub options_in : ArgMatches → List Given

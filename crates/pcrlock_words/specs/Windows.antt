@@ -1,5 +1,6 @@
 -- How a window of boots is read.
-use Rattle.std.specs.Prelude.{◌≡◌, ℕ, ◌≤◌, zero-le, suc-le-suc, Bool, true, false, List, [], ◌∷◌, length, codes, Option, Some, None, option_and_then, refl, unwrap_or}
+use Rattle.std.specs.Prelude.{◌≡◌, ℕ, ◌≤◌, Bool, true, false, List, [], ◌∷◌, length, codes, Option, Some, None, option_and_then, refl, unwrap_or}
+use Rattle.std.proofs.Common.{zero-le, suc-le-suc}
 use Rattle.predictor.specs.Ends.{is_greater, window_of}
 use Rattle.predictor.specs.declared.window.Window.{Window}
 

@@ -1,10 +1,10 @@
 //! The lines of `log`.
 
-ghost use Rattle.std.specs.Prelude.{◌≡◌, ◌++◌, flat_map, map, option_copied, slice_index_or, length, IfOk, OnOk, string_bytes, None};
+ghost use Rattle.std.specs.Prelude.{◌≡◌, ◌++◌, [], flat_map, option_copied, slice_index_or, length, IfOk, OnOk, string_bytes, None};
 ghost use Rattle.std.specs.List.{range_with_len};
 ghost use Rattle.component_tree.specs.PlainTree.{plain};
 ghost use Rattle.pcr_replay.specs.Row.{row, rows};
-ghost use Rattle.pcrlock_words.specs.LogText.{id_at, lister_text, log_text, pcr_text, record_text, records_from, compared_text};
+ghost use Rattle.pcrlock_words.specs.LogText.{event_name, id_at, lister_text, log_text, pcr_text, record_text, records_from, compared_text};
 
 use component_tree::Tree;
 use hash_bank::{Bank, Digest};
@@ -14,6 +14,7 @@ use record_match::listed_by;
 use std::alloc::Global;
 use std::fmt;
 use std::fmt::Write;
+use std::str;
 
 /// The lines of `log`.
 ///
@@ -43,7 +44,49 @@ pub fn log_text(
     Ok(text.into_bytes())
 }
 
+// The name of an event type, for those that are printed by name.
+fn event_name(kind: u32) -> Option<&'static str>
+    ensures { option_copied result ≡ event_name kind }
+{
+    match kind {
+        3 => Some("EV_NO_ACTION"),
+        4 => Some("EV_SEPARATOR"),
+        5 => Some("EV_ACTION"),
+        0xd => Some("EV_IPL"),
+        0x8000_0003 => Some("EV_EFI_BOOT_SERVICES_APPLICATION"),
+        0x8000_0007 => Some("EV_EFI_ACTION"),
+        0x8000_00e0 => Some("EV_EFI_VARIABLE_AUTHORITY"),
+        _ => None,
+    }
+}
+
+// An event type, as it is printed.
+#[derive(Clone, Copy)]
+struct EventType(u32);
+
+impl fmt::Display for EventType {
+    ghost use Rattle.std.specs.Prelude.{Some};
+    ghost use Rattle.pcrlock_words.specs.LogText.{event_text};
+
+    ghost output = { λ event. Some (event_text event.0) };
+
+    fn fmt<W: fmt::Write>(&self, f: &mut fmt::Formatter<W>) -> fmt::Result {
+        if let Some(name) = event_name(self.0) {
+            return f.write_str(name);
+        }
+        let mut room = [0u8; 8];
+        let Ok(()) = hex::encode_to_slice(self.0.to_be_bytes(), &mut room) else {
+            unreachable!();
+        };
+        let Ok(digits) = str::from_utf8(&room) else {
+            unreachable!();
+        };
+        write!(f, "0x{digits}")
+    }
+}
+
 // Who measured a record, as it is printed.
+#[derive(Clone, Copy)]
 struct Measurer(Origin);
 
 impl fmt::Display for Measurer {
@@ -54,20 +97,17 @@ impl fmt::Display for Measurer {
 
     fn fmt<W: fmt::Write>(&self, f: &mut fmt::Formatter<W>) -> fmt::Result {
         match self.0 {
-            Origin::Firmware(3) => write!(f, "EV_NO_ACTION"),
-            Origin::Firmware(4) => write!(f, "EV_SEPARATOR"),
-            Origin::Firmware(5) => write!(f, "EV_ACTION"),
-            Origin::Firmware(0xd) => write!(f, "EV_IPL"),
-            Origin::Firmware(0x8000_0003) => write!(f, "EV_EFI_BOOT_SERVICES_APPLICATION"),
-            Origin::Firmware(0x8000_0007) => write!(f, "EV_EFI_ACTION"),
-            Origin::Firmware(0x8000_00e0) => write!(f, "EV_EFI_VARIABLE_AUTHORITY"),
-            Origin::Firmware(kind) => write!(f, "0x{kind:08x}"),
+            Origin::Firmware(kind) => {
+                let event = EventType(kind);
+                write!(f, "{event}")
+            }
             Origin::User => write!(f, "user"),
         }
     }
 }
 
 // A digest, or a dash where there is none.
+#[derive(Drop)]
 struct OrDash<'a>(&'a Option<Digest>);
 
 impl<'a> fmt::Display for OrDash<'a> {

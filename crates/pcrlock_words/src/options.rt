@@ -2,7 +2,7 @@ ghost use Rattle.std.specs.Prelude.{◌≡◌, IfOk, map, option_copied};
 ghost use Rattle.std.specs.List.{list_any};
 ghost use Rattle.pcrlock_words.specs.Commands.{options_for};
 ghost use Rattle.pcrlock_words.specs.Options.{is_dashed, is_given, undashed, value_of};
-ghost use Rattle.pcrlock_words.specs.Parser.{is_stray};
+ghost use Rattle.pcrlock_words.specs.Parser.{is_of_words, is_stray};
 ghost use Rattle.pcrlock_words.specs.Readings.{Gives};
 
 use crate::command::Command;
@@ -55,7 +55,7 @@ impl<'a> Options<'a> {
     pub(crate) fn has(&self, name: &str) -> bool
         ensures { result ≡ is_given name.now self.now }
     {
-        self.matches.value_source(name) == Some(ValueSource::CommandLine)
+        is_of_words(self.matches.value_source(name))
     }
 
     /// The value of the option of this name.
@@ -67,6 +67,17 @@ impl<'a> Options<'a> {
         } else {
             None
         }
+    }
+}
+
+// Whether a value comes from the words, and not from a default.
+fn is_of_words(source: Option<ValueSource>) -> bool
+    ensures { result ≡ is_of_words source }
+{
+    match source {
+        Some(ValueSource::CommandLine) => true,
+        Some(ValueSource::DefaultValue) => false,
+        None => false,
     }
 }
 

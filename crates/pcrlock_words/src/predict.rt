@@ -54,13 +54,12 @@ fn write_more(text: &mut String, digests: &[Digest]) -> Result<(), Memory>
 fn write_values(text: &mut String, digests: &[Digest]) -> Result<(), Memory>
     ensures { OnOk result (string_bytes text.new ≡ string_bytes text.old ++ values_text digests.now) }
 {
-    match digests.split_first() {
-        Some((first, others)) => {
-            write!(text, "{first}")?;
-            write_more(text, others)
-        }
-        None => Ok(()),
-    }
+    let Some((first, others)) = digests.split_first() else {
+        return Ok(());
+    };
+    write!(text, "{first}")?;
+    write_more(text, others)?;
+    Ok(())
 }
 
 // Writes further numbers, each behind a comma.
@@ -77,13 +76,12 @@ fn write_more_pcrs(text: &mut String, pcrs: &[u8]) -> Result<(), Memory>
 fn write_pcrs(text: &mut String, pcrs: &[u8]) -> Result<(), Memory>
     ensures { OnOk result (string_bytes text.new ≡ string_bytes text.old ++ with_commas (map decimal pcrs.now)) }
 {
-    match pcrs.split_first() {
-        Some((first, others)) => {
-            write!(text, "{first}")?;
-            write_more_pcrs(text, others)
-        }
-        None => Ok(()),
-    }
+    let Some((first, others)) = pcrs.split_first() else {
+        return Ok(());
+    };
+    write!(text, "{first}")?;
+    write_more_pcrs(text, others)?;
+    Ok(())
 }
 
 // The PCRs of the mask, ascending.
@@ -172,7 +170,8 @@ fn write_pcr(
     ensures { OnOk result (string_bytes text.new ≡ string_bytes text.old ++ one_pcr_text protection.now (plain tree.now.components) pcr) }
 {
     write_rows_of(text, pcr, protection.table.rows.as_slice())?;
-    write_left_of(text, pcr, protection.left.as_slice(), tree)
+    write_left_of(text, pcr, protection.left.as_slice(), tree)?;
+    Ok(())
 }
 
 // Writes the lines of each PCR for itself.
@@ -238,5 +237,6 @@ fn write_joint(
     ensures { OnOk result (string_bytes text.new ≡ string_bytes text.old ++ joint_text protection.now (plain tree.now.components)) }
 {
     write_rows(alloc, text, protection.table.rows.as_slice())?;
-    write_all_left(text, protection.left.as_slice(), tree)
+    write_all_left(text, protection.left.as_slice(), tree)?;
+    Ok(())
 }

@@ -1,0 +1,4 @@
+use Rattle.pcrlock_words.proofs.predict.write_pcrs.Goals as goal
+
+pub returns : goal.returns
+returns c = ?

@@ -1,0 +1,4 @@
+use Rattle.pcrlock_words.proofs.predict.write_values.Goals as goal
+
+pub returns : goal.returns
+returns c = ?
