@@ -39,7 +39,7 @@ left_from bank asked s pcr = refl
 
 one_more : (values : List (List ℕ)) (value : List ℕ) (o : Option (List (List ℕ))) → before values (option_map (λ rest. value ∷ rest) o) ≡ before (values ++ value ∷ []) o
 one_more values value None = refl
-one_more values value (Some rest) = ap Some (sym (append_assoc {x = values} {y = value ∷ []} {z = rest}))
+one_more values value (Some rest) = ap Some (simp append_assoc)
 
 -- one value more was read
 pub left_read : (bank : Bank) (asked : ℕ) (s : Parts) (pcr : ℕ) (values : List (List ℕ)) (value : List ℕ) → pcr < 24

@@ -42,7 +42,7 @@ read_tells bank pcr s small rules =
 
 -- what was read is what the answer tells
 pub told_by : (result given : Result (Option (List ℕ)) Stop) (o : Option (List ℕ)) → result ≡ given → given ≡ Ok o → IfOk result (λ found. found ≡ o)
-told_by (Ok found) given o e h = let whole : Ok {E = Stop} found ≡ Ok o = e ∙ h in cc
+told_by (Ok found) given o e h = cc (e, h)
 told_by (Err stopped) given o e h = tt
 
 pub if_ok : {A E : Type 0} (P : Type 0) (result : Result A E) → P → IfOk result (λ _. P)
