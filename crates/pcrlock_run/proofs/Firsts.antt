@@ -63,7 +63,7 @@ command_first held stored state (requests.Cel firmware user) m at = inl at
 command_first held stored state (requests.ListComponents folders) m at = inl at
 command_first held stored state (requests.TpmBoot firmware user locality banks) m at = boot_first held stored state firmware user locality banks m at
 command_first held stored state (requests.Log firmware user folders bank) m at = inl at
-command_first held stored state (requests.Predict firmware user folders location pcr bank joint) m at = predicted_first held stored state firmware user folders location pcr bank joint m at
+command_first held stored state (requests.Predict firmware user folders location pcr bank joint) m at = inl at
 command_first held stored state (requests.TpmExec commands) m at = executed_first held stored state commands m at
 command_first held stored state (requests.Script file policy index) m at = inl at
 

@@ -90,7 +90,7 @@ command_kept state (requests.Cel firmware user) m w t = t
 command_kept state (requests.ListComponents folders) m w t = t
 command_kept state (requests.TpmBoot firmware user locality banks) m w t = boot_kept state firmware user locality banks m w t
 command_kept state (requests.Log firmware user folders bank) m w t = t
-command_kept state (requests.Predict firmware user folders location pcr bank joint) m w t = predicted_kept state firmware user folders location pcr bank joint m w t
+command_kept state (requests.Predict firmware user folders location pcr bank joint) m w t = t
 command_kept state (requests.TpmExec commands) m w t = executed_kept state commands m w t
 command_kept state (requests.Script file policy index) m w t = t
 

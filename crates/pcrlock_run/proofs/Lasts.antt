@@ -49,6 +49,6 @@ command_last held stored state (requests.Cel firmware user) m = λ at. inl at
 command_last held stored state (requests.ListComponents folders) m = λ at. inl at
 command_last held stored state (requests.TpmBoot firmware user locality banks) m = λ at. boot_last held stored state firmware user locality banks m at
 command_last held stored state (requests.Log firmware user folders bank) m = λ at. inl at
-command_last held stored state (requests.Predict firmware user folders location pcr bank joint) m = λ at. predicted_last held stored state firmware user folders location pcr bank joint m at
+command_last held stored state (requests.Predict firmware user folders location pcr bank joint) m = λ at. inl at
 command_last held stored state (requests.TpmExec commands) m = λ at. executed_last held stored state commands m at
 command_last held stored state (requests.Script file policy index) m = λ at. inl at

@@ -1,5 +1,5 @@
 -- What a command does by its request, and what a script does line by line.
-use Rattle.std.specs.Prelude.{ℕ, ◌^◌, Bool, true, ◌&&◌, ◌||◌, nat_le, nat_lt, if◌then◌else◌, List, [], ◌∷◌, ◌++◌, Option, None, Some}
+use Rattle.std.specs.Prelude.{ℕ, Bool, true, ◌&&◌, ◌||◌, nat_le, if◌then◌else◌, List, [], ◌∷◌, ◌++◌, Option, None, Some}
 use Rattle.hash_bank.specs.HashedString.{HashedString}
 use Rattle.pcrlock_words.specs.declared.answer.Answer.{Answer}
 use Rattle.pcrlock_words.specs.declared.answer.Answer.TheVariants as answers
@@ -13,7 +13,6 @@ use Rattle.pcrlock_line.specs.Outcome.{Outcome, refused_line}
 use Rattle.hash_bank.specs.declared.bank.Bank.{Bank}
 use Rattle.pcrlock_read.specs.Cel.{cel_line}
 use Rattle.pcrlock_read.specs.ComponentLines.{list_components_line}
-use Rattle.predictor.specs.declared.window.Window.{Window}
 use Rattle.pcrlock_predict.specs.Log.{log_line}
 use Rattle.pcrlock_predict.specs.Predict.{predict_line}
 use Rattle.pcrlock_exec.specs.Exec.{tpm_exec_line}
@@ -50,11 +49,6 @@ unfoldable pub boot_line : List ℕ → Option (List ℕ) → Option (List ℕ) 
 boot_line state firmware user locality banks m =
     if can_boot locality banks then tpm_boot_line state firmware user locality banks m else refused_line answers.BadWords m
 
--- `predict` of some of 24 PCRs
-unfoldable pub predict_outcome : List ℕ → Option (List ℕ) → Option (List ℕ) → List (List ℕ) → Window → ℕ → Bank → Bool → Machine → Outcome
-predict_outcome state firmware user folders location pcrs bank joint m =
-    if nat_lt pcrs (2 ^ 24) then predict_line state firmware user folders location pcrs bank joint m else refused_line answers.BadWords m
-
 -- what a command does, by cases, where the TPM's state stands at the path; a script inside a script is no
 -- command
 unfoldable pub command_line : List ℕ → Request → Machine → Outcome
@@ -65,7 +59,7 @@ command_line state (requests.Cel firmware user) m = cel_line firmware user m
 command_line state (requests.ListComponents folders) m = list_components_line folders m
 command_line state (requests.TpmBoot firmware user locality banks) m = boot_line state firmware user locality banks m
 command_line state (requests.Log firmware user folders bank) m = log_line state firmware user folders bank m
-command_line state (requests.Predict firmware user folders location pcr bank joint) m = predict_outcome state firmware user folders location pcr bank joint m
+command_line state (requests.Predict firmware user folders location pcr bank joint) m = predict_line state firmware user folders location pcr bank joint m
 command_line state (requests.TpmExec commands) m = tpm_exec_line state commands m
 command_line state (requests.Script file policy index) m = refused_line answers.BadWords m
 

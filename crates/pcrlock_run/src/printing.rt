@@ -8,13 +8,12 @@ ghost use Rattle.pcrlock_line.specs.Causes.{HasCauses};
 ghost use Rattle.pcrlock_read.specs.Cel.{cel_line};
 ghost use Rattle.pcrlock_read.specs.ComponentLines.{list_components_line};
 ghost use Rattle.pcrlock_predict.specs.Log.{log_line};
-ghost use Rattle.pcrlock_run.specs.Script.{predict_outcome};
+ghost use Rattle.pcrlock_predict.specs.Predict.{predict_line};
 
 use hash_bank::Bank;
 use pcrlock_line::{Reply, Stop};
 use pcrlock_predict::{log, predict};
 use pcrlock_read::{cel, list_components};
-use pcrlock_words::Answer;
 use pl_base::{Files, List, Name};
 use predictor::Window;
 use std::alloc::Global;
@@ -80,8 +79,7 @@ pub fn print_log<F: Files, T: Tpm>(
     )
 }
 
-/// Prints the values that the components foresee of some of 24 PCRs.
-#[tactic(auto, unfolding(crate::specs::Script::predict_outcome))]
+/// Prints the values that the components foresee of the PCRs of a mask.
 pub fn print_prediction<F: Files, T: Tpm>(
     alloc: Global,
     state: &Name,
@@ -97,25 +95,21 @@ pub fn print_prediction<F: Files, T: Tpm>(
 ) -> Result<Reply, Stop>
     ensures causes { HasCauses (F.faults files.old, 0, T.faults tpm.old, 0) (F.faults files.new, 0, T.faults tpm.new, 0) result }
     ensures told { (words : Option (Sequence (Sequence ℕ))) (m : Machine) → Tells (F.held files.old) (T.stored tpm.old) words m
-        → IfOk result (λ reply. Gives (F.held files.new) (T.stored tpm.new) words reply (predict_outcome state.now firmware.now user.now folders.now location.now pcrs bank joint m)) }
+        → IfOk result (λ reply. Gives (F.held files.new) (T.stored tpm.new) words reply (predict_line state.now firmware.now user.now folders.now location.now pcrs bank joint m)) }
     ensures stops { (words : Option (Sequence (Sequence ℕ))) (m : Machine) → Tells (F.held files.old) (T.stored tpm.old) words m
-        → IfErr result (λ _. StandsAmong (F.held files.new) (T.stored tpm.new) (predict_outcome state.now firmware.now user.now folders.now location.now pcrs bank joint m).stops) }
+        → IfErr result (λ _. StandsAmong (F.held files.new) (T.stored tpm.new) (predict_line state.now firmware.now user.now folders.now location.now pcrs bank joint m).stops) }
 {
-    if pcrs < 1 << 24 {
-        predict(
-            alloc,
-            files,
-            tpm,
-            state,
-            firmware.as_ref(),
-            user.as_ref(),
-            folders.as_slice(),
-            location,
-            pcrs,
-            bank,
-            joint,
-        )
-    } else {
-        Ok(Reply::Refused(Answer::BadWords))
-    }
+    predict(
+        alloc,
+        files,
+        tpm,
+        state,
+        firmware.as_ref(),
+        user.as_ref(),
+        folders.as_slice(),
+        location,
+        pcrs,
+        bank,
+        joint,
+    )
 }
