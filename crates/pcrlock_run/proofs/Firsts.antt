@@ -26,6 +26,7 @@ use Rattle.pcrlock_run.specs.Lines.{lines_of, line_count}
 use Rattle.pcrlock_run.specs.Script.{command_line, enroll_outcome, unseal_outcome, answered, line, script_from}
 use Rattle.pcrlock_run.specs.Whole.{alone, script_of_text, script_of_bytes, script_of_content, run_script, Scripted, script_in, run_as, run_request, run_spelled, script_bytes_limit, script_lines_limit}
 use Rattle.pcrlock_run.specs.Leaves.{IsNoScript}
+use Rattle.pcrlock_run.proofs.Executing.{executed_first}
 use Rattle.pcrlock_run.proofs.Booting.{boot_first}
 use Rattle.pcrlock_run.proofs.Folds.{begins_at}
 

@@ -28,6 +28,7 @@ use Rattle.pcrlock_seal.specs.EnrollWorld.{enroll_world}
 use Rattle.pcrlock_seal.proofs.Enrolled.{enroll_tied, enroll_order, enroll_leaves}
 use Rattle.pcrlock_open.specs.Unseal.{unseal_line}
 use Rattle.pcrlock_open.proofs.Ties.{unseal_tied}
+use Rattle.pcrlock_run.proofs.Executing.{executed_kept}
 use Rattle.pcrlock_run.proofs.Booting.{boot_kept}
 use Rattle.pcrlock_run.specs.Lines.{lines_of, line_count}
 use Rattle.pcrlock_run.specs.Script.{enroll_outcome, unseal_outcome, command_line, answered, line, script_from}

@@ -16,6 +16,7 @@ use Rattle.pcrlock_tpm.proofs.Extends.{last_stop}
 use Rattle.pcrlock_seal.specs.Enroll.{enrolled_line, enroll_line}
 use Rattle.pcrlock_seal.proofs.Stops.{enrolled_last}
 use Rattle.pcrlock_open.proofs.Stops.{unseal_last}
+use Rattle.pcrlock_run.proofs.Executing.{executed_last}
 use Rattle.pcrlock_run.proofs.Booting.{boot_last}
 use Rattle.pcrlock_run.specs.Script.{command_line, enroll_outcome, unseal_outcome}
 
