@@ -13,11 +13,15 @@ use Rattle.predictor.specs.declared.protection.Protection.{Protection}
 use Rattle.pcrlock_words.specs.Texts.{line_end}
 use Rattle.pcrlock_words.specs.LogText.{id_at}
 
+-- texts with another one between
+abbrev pub with_between : List ℕ → List (List ℕ) → List ℕ
+with_between between [] = []
+with_between between (text ∷ []) = text
+with_between between (text ∷ next ∷ texts) = text ++ between ++ with_between between (next ∷ texts)
+
 -- texts with commas between
 abbrev pub with_commas : List (List ℕ) → List ℕ
-with_commas [] = []
-with_commas (text ∷ []) = text
-with_commas (text ∷ next ∷ texts) = text ++ codes "," ++ with_commas (next ∷ texts)
+with_commas texts = with_between (codes ",") texts
 
 -- the values of some PCRs at once
 abbrev pub values_text : List (List ℕ) → List ℕ

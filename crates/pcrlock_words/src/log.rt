@@ -2,19 +2,19 @@
 
 ghost use Rattle.std.specs.Prelude.{◌≡◌, ◌++◌, [], flat_map, option_copied, slice_index_or, length, IfOk, OnOk, string_bytes, None};
 ghost use Rattle.std.specs.List.{range_with_len};
+ghost use Rattle.cel_record.specs.Listed.{listed, listed_in};
 ghost use Rattle.component_tree.specs.PlainTree.{plain};
 ghost use Rattle.pcr_replay.specs.Row.{row, rows};
 ghost use Rattle.pcrlock_words.specs.LogText.{event_name, id_at, lister_text, log_text, pcr_text, record_text, records_from, compared_text};
 
 use component_tree::Tree;
-use hash_bank::{Bank, Digest};
+use hash_bank::{Bank, Digest, Digests};
 use pcr_replay::{LogRecord, Origin, replay_all};
 use pl_base::Memory;
 use record_match::listed_by;
 use std::alloc::Global;
-use std::fmt;
 use std::fmt::Write;
-use std::str;
+use std::{fmt, str};
 
 /// The lines of `log`.
 ///
@@ -144,6 +144,18 @@ fn lister<'a>(tree: &'a Tree, record: &LogRecord) -> &'a str
     }
 }
 
+// The digest in the bank, if it is there.
+fn digest_in(digests: &Digests, bank: Bank) -> &Option<Digest>
+    ensures { result.now ≡ listed_in bank (listed digests.now) }
+{
+    match bank {
+        Bank::Sha1 => &digests.sha1,
+        Bank::Sha256 => &digests.sha256,
+        Bank::Sha384 => &digests.sha384,
+        Bank::Sha512 => &digests.sha512,
+    }
+}
+
 // Writes the line of a record.
 fn write_record(
     text: &mut String,
@@ -156,8 +168,8 @@ fn write_record(
 {
     let pcr = record.pcr;
     let measurer = Measurer(record.origin);
-    let digest = record.digests.get(bank);
-    let digest = OrDash(&digest);
+    let found = digest_in(&record.digests, bank);
+    let digest = OrDash(found);
     let component = lister(tree, record);
     writeln!(text, "{number} {pcr} {measurer} {digest} {component}")?;
     Ok(())
@@ -190,7 +202,12 @@ fn compared(replay: &Option<Digest>, now: &Digest) -> &'static str
 }
 
 // Writes the line of a PCR.
-fn write_pcr(text: &mut String, pcr: u8, replay: &Option<Digest>, now: &Digest) -> Result<(), Memory>
+fn write_pcr(
+    text: &mut String,
+    pcr: u8,
+    replay: &Option<Digest>,
+    now: &Digest,
+) -> Result<(), Memory>
     ensures { OnOk result (string_bytes text.new ≡ string_bytes text.old ++ pcr_text pcr replay.now now.now) }
 {
     let compared = compared(replay, now);
@@ -200,11 +217,7 @@ fn write_pcr(text: &mut String, pcr: u8, replay: &Option<Digest>, now: &Digest) 
 }
 
 // Writes the lines of the 24 PCRs.
-fn write_pcrs(
-    text: &mut String,
-    replayed: &[Option<Digest>],
-    now: &[Digest],
-) -> Result<(), Memory>
+fn write_pcrs(text: &mut String, replayed: &[Option<Digest>], now: &[Digest]) -> Result<(), Memory>
     requires replayed { length replayed.now ≡ 24 }
     requires now { length now.now ≡ 24 }
     ensures { OnOk result (string_bytes text.new ≡ string_bytes text.old ++ flat_map (λ pcr. pcr_text pcr (slice_index_or replayed.now pcr None) (slice_index_or now.now pcr [])) (range_with_len 0 24)) }

@@ -160,12 +160,7 @@ fn write_left_of(text: &mut String, pcr: u8, left: &[LeftOut], tree: &Tree) -> R
 }
 
 // Writes the lines of the PCR.
-fn write_pcr(
-    text: &mut String,
-    pcr: u8,
-    protection: &Protection,
-    tree: &Tree,
-) -> Result<(), Memory>
+fn write_pcr(text: &mut String, pcr: u8, protection: &Protection, tree: &Tree) -> Result<(), Memory>
     requires { pcr ≤ 23 }
     ensures { OnOk result (string_bytes text.new ≡ string_bytes text.old ++ one_pcr_text protection.now (plain tree.now.components) pcr) }
 {
