@@ -15,3 +15,6 @@ pub mod Members
 pub mod IndexPlaces
 pub mod Indices
 pub mod IndicesAfter
+pub mod SamePin
+pub mod TrailReads
+pub mod WholeAfter
