@@ -18,3 +18,4 @@ pub mod IndicesAfter
 pub mod SamePin
 pub mod TrailReads
 pub mod WholeAfter
+pub mod WholeLists

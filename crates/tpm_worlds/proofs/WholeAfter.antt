@@ -36,7 +36,7 @@ use Rattle.tpm_worlds.proofs.TrailReads.{AreRead, GrowsAll, HasReads, hashed_ses
 use Rattle.tpm_worlds.proofs.Trails.{all_map}
 
 -- what an accepted event adds to the world
-grows_accepted : (event : Event) (r : Response) (t : Parts) (v : World) → GrowsAll v (accepted_world event r t v)
+pub grows_accepted : (event : Event) (r : Response) (t : Parts) (v : World) → GrowsAll v (accepted_world event r t v)
 grows_accepted event (answer.Refused why) t v = record { strings = λ _ k. k; pins = λ _ k. k; strange = λ _ k. k; writes = λ _ k. k }
 grows_accepted (Update handle pin table) answer.Done t v = record {
   strings = λ _ k. k;
