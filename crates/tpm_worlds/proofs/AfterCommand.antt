@@ -36,7 +36,7 @@ nothing c t v same tie (answer.Refused why) = tie
 nothing c t v same tie r = subst (Tied t) (sym same) tie
 
 -- the strings of the pin that is written with were hashed
-written_strings : (index : ℕ) (pin : List ℕ) (s : Parts) (v : World) (x : Index) → index_at index s.indices ≡ Some x → AreHashed v (write_strings (index_at index s.indices) pin) → AreHashed v (pin_strings pin)
+pub written_strings : (index : ℕ) (pin : List ℕ) (s : Parts) (v : World) (x : Index) → index_at index s.indices ≡ Some x → AreHashed v (write_strings (index_at index s.indices) pin) → AreHashed v (pin_strings pin)
 written_strings index pin s v x e h = subst (λ o. AreHashed v (write_strings o pin)) e h
 
 -- a command, in a world that has its strings

@@ -30,7 +30,7 @@ use Rattle.tpm_worlds.proofs.Steady.{Steady, grows_after, steady_after, steady_f
 use Rattle.tpm_worlds.proofs.Ties.{Grows}
 
 -- strings that are among safe ones are safe
-safe_before : (w v : World) → Grows w v → Safe v → Safe w
+pub safe_before : (w v : World) → Grows w v → Safe v → Safe w
 safe_before w v grows safe = record {
   distinct = λ s t h k. safe.distinct s t (grows s h) (grows t k);
   nonzero = λ s h. safe.nonzero s (grows s h);

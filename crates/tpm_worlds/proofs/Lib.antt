@@ -10,3 +10,12 @@ pub mod Opened
 pub mod Steady
 pub mod EachUnseal
 pub mod CommandLists
+pub mod Fresh
+pub mod Members
+pub mod IndexPlaces
+pub mod Indices
+pub mod IndicesAfter
+pub mod SamePin
+pub mod TrailReads
+pub mod WholeAfter
+pub mod WholeLists

@@ -55,7 +55,7 @@ or_hashed : (handle : ℕ) (list : List (List ℕ)) (s : Parts) (v : World) (x :
     → AreHashed v (or_strings (session_at handle s.sessions) list) → Contains v.hashed (record { hash = x.hash; bytes = or_string_in x.hash list })
 or_hashed handle list s v x e h = subst (λ o. AreHashed v (or_strings o list)) e h _ (0, lit< tt, refl)
 
-nv_hashed : (handle index : ℕ) (s : Parts) (v : World) (x : Session) (i : Index) → session_at handle s.sessions ≡ Some x → index_at index s.indices ≡ Some i
+pub nv_hashed : (handle index : ℕ) (s : Parts) (v : World) (x : Session) (i : Index) → session_at handle s.sessions ≡ Some x → index_at index s.indices ≡ Some i
     → AreHashed v (nv_strings (session_at handle s.sessions) (index_at index s.indices)) → AreHashed v (name_strings_in x.hash i.public)
 nv_hashed handle index s v x i e f h =
     subst (λ o. AreHashed v (nv_strings (Some x) o)) f (subst (λ o. AreHashed v (nv_strings o (index_at index s.indices))) e h)

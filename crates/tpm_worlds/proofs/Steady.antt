@@ -141,7 +141,7 @@ filed_on w v grows (Some filed) h = (
 )
 
 -- the strings of a command are among those of its event
-command_hashed : (event : Event) (s : Parts) (w : World) → AreHashed (hashed_world (event_strings event s) w) (command_strings (command_of event) s)
+pub command_hashed : (event : Event) (s : Parts) (w : World) → AreHashed (hashed_world (event_strings event s) w) (command_strings (command_of event) s)
 command_hashed (Update handle pin table) s w = λ x k.
     Contains-append_right w.hashed (event_strings (Update handle pin table) s) x
     (Contains-append_left _ (bind_strings handle pin) x (Contains-append_left _ (table_strings table) x k))

@@ -1,3 +1,5 @@
 pub mod SealedTie
 pub mod CommandLists
 pub mod EventLists
+pub mod FreshWorld
+pub mod WholeEvents
