@@ -1,0 +1,4 @@
+pub mod Rules
+pub mod Lists
+pub mod Steps
+pub mod Stands
