@@ -10,9 +10,9 @@ ghost use Rattle.pcrlock_run.specs.Leaves.{Safe};
 
 use crate::printing::{print_cel, print_components, print_log, print_prediction};
 use hash_bank::{Bank, Banks};
+use pcrlock_exec::tpm_exec;
 use pcrlock_line::{Reply, Stop};
 use pcrlock_open::unseal;
-use pcrlock_exec::tpm_exec;
 use pcrlock_seal::enroll;
 use pcrlock_tpm::{tpm_boot, tpm_extend};
 use pcrlock_words::{Answer, Request, WordsError, read_words};
