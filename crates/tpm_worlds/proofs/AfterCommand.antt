@@ -1,8 +1,7 @@
 -- A command of anyone leaves the state and the world hanging together.
-use Rattle.std.proofs.Common.{◌≡◌, ℕ, ◌+◌, true, List, ◌∷◌, [], ◌++◌, map, refl, sym, ap, subst, arith}
+use Rattle.std.proofs.Common.{◌≡◌, ℕ, ◌+◌, true, List, ◌∷◌, [], ◌++◌, map, refl, sym, subst, arith}
 use Rattle.std.specs.Prelude.{Some, remove}
 use Rattle.std.proofs.lemmas.List.{map-append}
-use Rattle.hash_bank.specs.HashedString.{HashedString}
 use Rattle.nv_index.specs.Handles.{are_handles}
 use Rattle.nv_index.specs.Table.{index_at}
 use Rattle.nv_index.specs.declared.index.Index.{Index}
