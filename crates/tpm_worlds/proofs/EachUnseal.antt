@@ -1,5 +1,5 @@
 -- Each Unseal of a list of events opens by the value alone.
-use Rattle.std.proofs.Common.{◌≡◌, ℕ, List, [], ◌∷◌, map, sym, ap, ◌∙◌}
+use Rattle.std.proofs.Common.{◌≡◌, ℕ, List, [], ◌∷◌, map, refl, sym, ap, ◌∙◌}
 use Rattle.std.specs.Prelude.{Some}
 use Rattle.std.specs.FinMap.{get}
 use Rattle.hash_bank.specs.declared.bank.Bank.{Bank}
@@ -89,3 +89,8 @@ tie_after_all events s w h t fair = tie_from _ _ (steady_all events s w (steady_
 pub others_fair : (commands : List Command) (s : Parts) (w : World) → AreFair (map Other commands) s w
 others_fair [] s w = tt
 others_fair (c ∷ commands) s w = (tt, others_fair commands (respond c s).1 (world_after (Other c) s w))
+
+-- the commands of events of anyone are these
+pub others_command : (commands : List Command) → map command_of (map Other commands) ≡ commands
+others_command [] = refl
+others_command (c ∷ commands) = ap (λ cs. c ∷ cs) (others_command commands)
