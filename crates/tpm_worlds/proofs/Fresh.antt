@@ -1,11 +1,10 @@
 -- A TPM that was never used hangs together with the world in which nobody has done anything.
-use Rattle.std.proofs.Common.{◌≡◌, ℕ, ◌<◌, [], refl, sym, ◌∙◌, arith, Contains}
+use Rattle.std.proofs.Common.{◌≡◌, refl, sym, ◌∙◌, arith}
 use Rattle.std.specs.FinMap.{get-empty}
 use Rattle.std.specs.Ordering.{nat_cmp}
 use Rattle.std.specs.Prelude.{None, Some}
 use Rattle.hash_bank.specs.declared.banks.Banks.{Banks}
 use Rattle.tpm_model.specs.Fresh.{fresh_parts}
-use Rattle.tpm_model.specs.Tied.{Tied}
 use Rattle.tpm_model.specs.World.{BoundObject}
 use Rattle.tpm_worlds.specs.EventLists.{Safe}
 use Rattle.tpm_worlds.specs.FreshWorld.{fresh_world}
