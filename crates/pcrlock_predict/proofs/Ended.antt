@@ -1,5 +1,5 @@
 -- The ends of commands that look and print.
-use Rattle.std.proofs.Common.{◌≡◌, ℕ, ◌≤◌, List, refl, sym, ap, ◌∙◌, subst, arith}
+use Rattle.std.proofs.Common.{◌≡◌, ℕ, ◌≤◌, List, sym, ap, ◌∙◌, subst, arith}
 use Rattle.std.specs.Prelude.{Option, Result, Ok, Err, IfOk, IfErr}
 use Rattle.pl_base.specs.FileMap.{FileMap}
 use Rattle.pl_base.specs.Faults.{HasCause}
@@ -10,7 +10,7 @@ use Rattle.pcrlock_line.specs.declared.stop.Stop.{Stop}
 use Rattle.pcrlock_line.specs.declared.stop.Stop.TheVariants as stop
 use Rattle.pcrlock_line.specs.Causes.{Counts, HasCauses, IsCaused}
 use Rattle.pcrlock_line.specs.Machine.{Machine, Tells}
-use Rattle.pcrlock_line.specs.Outcome.{Ending, Refused, Gives, ending_of}
+use Rattle.pcrlock_line.specs.Outcome.{Refused, Gives, ending_of}
 use Rattle.pcrlock_line.proofs.Composed.{then, then_stops, on_tpm}
 use Rattle.pcrlock_input.specs.Answering.{◌>>=◌}
 use Rattle.pcrlock_predict.specs.Printed.{printed, printed_line}

@@ -1,6 +1,6 @@
 -- What the TPM answers to a read of a PCR.
-use Rattle.std.proofs.Common.{◌≡◌, ◌⊎◌, ℕ, ◌≤◌, Bool, true, false, cond, List, length, inl, inr, refl, sym, ap, ◌∙◌}
-use Rattle.std.specs.Prelude.{Option, None, Some, Result, Ok, Err, IfOk, IfErr, nat_lt, ◌==◌}
+use Rattle.std.proofs.Common.{◌≡◌, ◌⊎◌, ℕ, ◌≤◌, cond, List, length, inl, inr, refl, ap, ◌∙◌}
+use Rattle.std.specs.Prelude.{Option, None, Some, Result, Ok, Err, IfOk, IfErr}
 use Rattle.std.proofs.lemmas.Bool.{le-ltb, eq-eqb}
 use Rattle.hash_bank.specs.declared.bank.Bank.{Bank}
 use Rattle.hash_bank.specs.Hash.{size_in}
@@ -13,7 +13,6 @@ use Rattle.tpm_model.proofs.PcrPlaces.{value_at}
 use Rattle.tpm_device.specs.Stored.{Stored, Holds}
 use Rattle.pcrlock_line.specs.declared.stop.Stop.{Stop}
 use Rattle.pcrlock_line.specs.declared.stop.Stop.TheVariants as stop
-use Rattle.pcrlock_line.specs.Asked.{IsAnswered}
 use Rattle.pcrlock_predict.specs.Present.{reading_of}
 use Rattle.pcrlock_predict.specs.Running.{Runs}
 

@@ -10,6 +10,3 @@ mod present;
 
 pub use crate::logging::log;
 pub use crate::predicting::predict;
-
-#[cfg(test)]
-mod tests;

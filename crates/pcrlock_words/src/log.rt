@@ -5,13 +5,14 @@ ghost use Rattle.std.specs.List.{range_with_len};
 ghost use Rattle.cel_record.specs.Listed.{listed, listed_in};
 ghost use Rattle.component_tree.specs.PlainTree.{plain};
 ghost use Rattle.pcr_replay.specs.Row.{row, rows};
+ghost use Rattle.record_match.specs.Noted.{IsListingOf};
 ghost use Rattle.pcrlock_words.specs.LogText.{event_name, id_at, lister_text, log_text, pcr_text, record_text, records_from, compared_text};
 
 use component_tree::Tree;
 use hash_bank::{Bank, Digest, Digests};
 use pcr_replay::{LogRecord, Origin, replay_all};
 use pl_base::Memory;
-use record_match::listed_by;
+use record_match::Listing;
 use std::alloc::Global;
 use std::fmt::Write;
 use std::{fmt, str};
@@ -37,7 +38,8 @@ pub fn log_text(
     ensures { IfOk result (λ text. text.items ≡ log_text (rows list.now) (plain tree.now.components) bank locality now.now skipped) }
 {
     let mut text = String::new(alloc);
-    write_records(&mut text, list, tree, bank)?;
+    let listing = Listing::new(alloc, tree)?;
+    write_records(&mut text, list, tree, &listing, bank)?;
     let replayed = replay_all(list, bank, locality);
     write_pcrs(&mut text, &replayed, now)?;
     writeln!(text, "skipped {skipped}")?;
@@ -135,10 +137,11 @@ pub(crate) fn component_id(tree: &Tree, number: u32) -> &str
 }
 
 // The component that lists the record, or a dash.
-fn lister<'a>(tree: &'a Tree, record: &LogRecord) -> &'a str
+fn lister<'a>(tree: &'a Tree, listing: &Listing, record: &LogRecord) -> &'a str
+    requires { IsListingOf listing.now (plain tree.now.components) }
     ensures { result.now ≡ lister_text (plain tree.now.components) (row record.now) }
 {
-    match listed_by(tree, record) {
+    match listing.find(tree, record) {
         Some(number) => component_id(tree, number),
         None => "-",
     }
@@ -160,17 +163,19 @@ fn digest_in(digests: &Digests, bank: Bank) -> &Option<Digest>
 fn write_record(
     text: &mut String,
     tree: &Tree,
+    listing: &Listing,
     bank: Bank,
     number: usize,
     record: &LogRecord,
 ) -> Result<(), Memory>
+    requires { IsListingOf listing.now (plain tree.now.components) }
     ensures { OnOk result (string_bytes text.new ≡ string_bytes text.old ++ record_text (plain tree.now.components) bank number (row record.now)) }
 {
     let pcr = record.pcr;
     let measurer = Measurer(record.origin);
     let found = digest_in(&record.digests, bank);
     let digest = OrDash(found);
-    let component = lister(tree, record);
+    let component = lister(tree, listing, record);
     writeln!(text, "{number} {pcr} {measurer} {digest} {component}")?;
     Ok(())
 }
@@ -180,12 +185,14 @@ fn write_records(
     text: &mut String,
     list: &[LogRecord],
     tree: &Tree,
+    listing: &Listing,
     bank: Bank,
 ) -> Result<(), Memory>
+    requires { IsListingOf listing.now (plain tree.now.components) }
     ensures { OnOk result (string_bytes text.new ≡ string_bytes text.old ++ records_from (plain tree.now.components) bank 0 (rows list.now)) }
 {
     for (number, record) in list.iter().enumerate() {
-        write_record(text, tree, bank, number, record)?;
+        write_record(text, tree, listing, bank, number, record)?;
     }
     Ok(())
 }

@@ -17,5 +17,6 @@ pub mod Indices
 pub mod IndicesAfter
 pub mod SamePin
 pub mod TrailReads
+pub mod Ranges
 pub mod WholeAfter
 pub mod WholeLists

@@ -1,5 +1,5 @@
 -- Where strings don't clash, a pin's policy tells the pin.
-use Rattle.std.proofs.Common.{◌≡◌, ℕ, List, [], ◌∷◌, ◌++◌, refl, ap, lit<, Contains}
+use Rattle.std.proofs.Common.{◌≡◌, ℕ, List, [], refl, ap, lit<, Contains}
 use Rattle.std.specs.Int.{w16, w32, to_be_bytes}
 use Rattle.std.proofs.lemmas.List.{append_cancel_left, append_cancel_right}
 use Rattle.hash_bank.specs.declared.bank.Bank.TheVariants.{Sha256}

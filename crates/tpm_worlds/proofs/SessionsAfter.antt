@@ -1,15 +1,12 @@
 -- What is kept of each session, every command keeps.
-use Rattle.std.proofs.Common.{◌≡◌, ℕ, ◌+◌, true, cond, List, [], ◌∷◌, refl, sym, ap, subst, lit<, Contains}
-use Rattle.std.specs.Prelude.{Option, None, Some}
+use Rattle.std.proofs.Common.{◌≡◌, ℕ, true, cond, List, [], ◌∷◌, refl, subst, lit<, Contains}
+use Rattle.std.specs.Prelude.{Some}
 use Rattle.std.specs.List.{AllByRecursion}
 use Rattle.hash_bank.specs.declared.bank.Bank.{Bank}
-use Rattle.hash_bank.specs.declared.bank.Bank.TheVariants.{Sha256}
 use Rattle.hash_bank.specs.Banks.{has_bank}
-use Rattle.hash_bank.specs.HashedString.{HashedString}
 use Rattle.nv_index.specs.IndexName.{index_name_of}
 use Rattle.nv_index.specs.Table.{index_at}
 use Rattle.nv_index.specs.declared.index.Index.{Index}
-use Rattle.nv_index.specs.declared.index.Written.{Written}
 use Rattle.nv_index.proofs.Lists.{all_at, all_push, all_remove, all_set}
 use Rattle.policy_digest.specs.BindingStrings.{name_strings_in}
 use Rattle.policy_digest.specs.Strings.{or_string_in, pcr_string_in}

@@ -1,7 +1,6 @@
 -- What each PolicyAuthorizeNV of a trail read, every command keeps.
-use Rattle.std.proofs.Common.{◌≡◌, ℕ, ◌+◌, ◌/◌, ◌%◌, ◌^◌, ◌<◌, ◌==◌, Bool, true, false, ◌&&◌, ◌||◌, List, [], ◌∷◌, ◌++◌, ◌⊎◌, inl, inr, length, get_or, refl, sym, ap, subst, ◌∙◌, arith, Contains, lit<}
-use Rattle.std.specs.Prelude.{slice_get, reverse, Option, None, Some}
-use Rattle.std.specs.Int.{w16, to_be_bytes}
+use Rattle.std.proofs.Common.{◌≡◌, ℕ, ◌==◌, Bool, true, false, ◌||◌, List, [], ◌∷◌, inl, inr, get_or, refl, sym, ap, subst, ◌∙◌, arith, Contains, lit<}
+use Rattle.std.specs.Prelude.{reverse, Some}
 use Rattle.std.specs.FinMap.{get}
 use Rattle.std.specs.List.{AllByRecursion}
 use Rattle.std.proofs.lemmas.Bool.{and_parts, eqb-true}
@@ -9,8 +8,6 @@ use Rattle.std.proofs.lemmas.List.{append_cancel_left, reverse-append, reverse-r
 use Rattle.std.proofs.lemmas.Option.{slice_get_within, get_or_from_slice_get}
 use Rattle.hash_bank.specs.declared.bank.Bank.{Bank}
 use Rattle.hash_bank.specs.declared.bank.Bank.TheVariants.{Sha1, Sha256, Sha384, Sha512}
-use Rattle.hash_bank.specs.Hash.{algorithm_in}
-use Rattle.hash_bank.specs.HashedString.{HashedString}
 use Rattle.nv_index.specs.Attributes.{content_size, defined_attributes, written_attributes}
 use Rattle.nv_index.specs.IndexName.{index_name_of, index_string, written_public}
 use Rattle.nv_index.specs.Table.{has_attributes, has_written, index_at, index_place}
@@ -32,13 +29,12 @@ use Rattle.tpm_model.specs.Events.{content_of_table}
 use Rattle.tpm_model.specs.Respond.{respond}
 use Rattle.tpm_model.specs.Rules.{HasRules}
 use Rattle.tpm_model.specs.SessionCommands.{content_in, session_handle}
-use Rattle.tpm_model.specs.Sessions.{fresh_session, session_at, session_place}
+use Rattle.tpm_model.specs.Sessions.{fresh_session, session_place}
 use Rattle.tpm_model.specs.Shape.{IsIndexShape, IsWrittenShape}
 use Rattle.tpm_model.specs.Strings.{command_strings}
-use Rattle.tpm_model.specs.Trails.{digest_of_in, entry_string_in}
-use Rattle.tpm_model.specs.WholeTie.{AreTiedEntries, HoldsRoot, IsLive, IsStrange, IsTiedEntry, IsTiedRead, IsTiedSession, IsWriteOf, TiedIndices}
+use Rattle.tpm_model.specs.WholeTie.{AreTiedEntries, IsTiedEntry, IsTiedRead, IsTiedSession, IsWriteOf, TiedIndices}
 use Rattle.tpm_model.specs.World.{LiveIndex, PolicyUpdate, World, AreHashed}
-use Rattle.tpm_worlds.specs.SealedTie.{AreHashedEntries, IsHashedEntry, IsHashedName, IsHashedSession}
+use Rattle.tpm_worlds.specs.SealedTie.{AreHashedEntries, IsHashedEntry, IsHashedSession}
 use Rattle.tpm_worlds.proofs.Cases.{by_evict, by_flush_session, by_nv_define, by_nv_read, by_nv_read_public, by_nv_undefine, by_nv_write, by_pcr_extend, by_pcr_read, by_policy_authorize_nv, by_policy_get_digest, by_policy_or, by_policy_pcr, by_restart, by_seal, by_start_session, by_unseal}
 use Rattle.tpm_worlds.proofs.IndexPlaces.{found_handle}
 use Rattle.tpm_worlds.proofs.IndicesAfter.{handle_range}

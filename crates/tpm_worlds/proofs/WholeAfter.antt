@@ -1,9 +1,9 @@
 -- Every event leaves the state and the world hanging together in all parts.
-use Rattle.std.proofs.Common.{◌≡◌, ℕ, ◌+◌, List, [], ◌∷◌, ◌++◌, map, refl, sym, ap, subst, ◌∙◌, Contains}
-use Rattle.std.specs.Prelude.{Option, None, Some}
+use Rattle.std.proofs.Common.{◌≡◌, ℕ, ◌+◌, List, [], ◌∷◌, ◌++◌, refl, sym, ap, subst, ◌∙◌, Contains}
+use Rattle.std.specs.Prelude.{Some}
 use Rattle.std.specs.FinMap.{get}
 use Rattle.std.specs.List.{AllByRecursion}
-use Rattle.std.proofs.lemmas.List.Elements.{Contains-append_left, Contains-append_right, Contains-push}
+use Rattle.std.proofs.lemmas.List.Elements.{Contains-append_left, Contains-push}
 use Rattle.hash_bank.specs.HashedString.{HashedString, NoClash}
 use Rattle.nv_index.specs.Table.{after_write, after_write_of, index_at, index_place}
 use Rattle.nv_index.specs.declared.index.Index.{Index}
@@ -25,10 +25,11 @@ use Rattle.tpm_model.specs.WholeTie.{IsTiedSession, TiedIndices, WholeTie}
 use Rattle.tpm_model.specs.World.{LiveIndex, PolicyUpdate, World, AreHashed, hashed_world}
 use Rattle.tpm_worlds.specs.EventLists.{IsFair, Safe}
 use Rattle.tpm_worlds.specs.SealedTie.{IsHashedSession, SealedTie}
-use Rattle.tpm_worlds.specs.WholeEvents.{IsSoundEvent, KnowsPins}
+use Rattle.tpm_worlds.specs.WholeEvents.{HasRanges, IsSoundEvent, KnowsPins}
 use Rattle.tpm_worlds.proofs.AfterCommand.{written_strings}
 use Rattle.tpm_worlds.proofs.Cases.{by_evict, by_flush_session, by_nv_define, by_nv_read, by_nv_read_public, by_nv_undefine, by_nv_write, by_pcr_extend, by_pcr_read, by_policy_authorize_nv, by_policy_get_digest, by_policy_or, by_policy_pcr, by_restart, by_seal, by_start_session, by_unseal}
 use Rattle.tpm_worlds.proofs.IndicesAfter.{indices_defined, indices_same, indices_strange, indices_undefined, indices_updated, rewritten}
+use Rattle.tpm_worlds.proofs.Ranges.{ranged_accepted}
 use Rattle.tpm_worlds.proofs.SamePin.{same_pin}
 use Rattle.tpm_worlds.proofs.Steady.{command_hashed, hashed_stays, steady_after, steady_from, tie_from}
 use Rattle.tpm_worlds.proofs.Ties.{pushed, sound_on, tied_hashed}
@@ -169,15 +170,15 @@ module _ (s : Parts) (v : World) (rules : HasRules s) (known : KnowsPins v) (saf
 fair_from : (event : Event) (w : World) → IsSoundEvent event w → IsFair event w
 fair_from (Update handle pin table) w h = tt
 fair_from (Define public pin) w h = tt
-fair_from (SealTo b secret) w h = h
+fair_from (SealTo b secret) w h = h.0
 fair_from (SealPin handle pin) w h = tt
 fair_from (Other c) w h = tt
 
 sound_stays : (event : Event) (w : World) (more : List HashedString) → IsSoundEvent event w → IsSoundEvent event (hashed_world more w)
 sound_stays (Update handle pin table) w more h = h
 sound_stays (Define public pin) w more h = tt
-sound_stays (SealTo b secret) w more h = sound_on w (hashed_world more w) (λ _ k. k) b h
-sound_stays (SealPin handle pin) w more h = tt
+sound_stays (SealTo b secret) w more h = (sound_on w (hashed_world more w) (λ _ k. k) b h.0, h.1)
+sound_stays (SealPin handle pin) w more h = h
 sound_stays (Other c) w more h = tt
 
 -- the tie of strings is a part of the whole
@@ -219,3 +220,9 @@ pub known_after : (event : Event) (s : Parts) (w : World) → KnowsPins w → Kn
 known_after event s w known =
     let r = respond (command_of event) s in
     known_accepted event r.0 r.1 (hashed_world (event_strings event s) w) known
+
+-- and the handles in bindings have 32 bits still
+pub ranges_after : (event : Event) (s : Parts) (w : World) → IsSoundEvent event w → HasRanges w → HasRanges (world_after event s w)
+ranges_after event s w sound ranges =
+    let r = respond (command_of event) s in
+    ranged_accepted event r.0 r.1 (hashed_world (event_strings event s) w) w sound ranges

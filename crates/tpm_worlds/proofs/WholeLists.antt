@@ -1,19 +1,18 @@
 -- A list of events leaves the state and the world hanging together in all parts.
-use Rattle.std.proofs.Common.{◌≡◌, ℕ, ◌+◌, ◌<◌, List, [], ◌∷◌, ◌++◌, map, length, get_or, take, refl, sym, ap, subst, ◌∙◌, arith, Contains}
+use Rattle.std.proofs.Common.{◌≡◌, ℕ, ◌+◌, ◌<◌, List, [], ◌∷◌, ◌++◌, map, length, get_or, take, sym, ap, subst, ◌∙◌, arith}
 use Rattle.std.specs.Prelude.{None, Some}
 use Rattle.std.specs.FinMap.{get-empty}
 use Rattle.std.specs.Ordering.{nat_cmp}
 use Rattle.std.proofs.lemmas.List.Elements.{Contains-append_left}
 use Rattle.hash_bank.specs.declared.banks.Banks.{Banks}
-use Rattle.hash_bank.specs.HashedString.{HashedString}
 use Rattle.tpm_model.specs.declared.command.Command.{Command}
 use Rattle.tpm_model.specs.declared.parts.Parts.{Parts}
-use Rattle.tpm_model.specs.Events.{Clean, Event, command_of, event_strings, world_after}
+use Rattle.tpm_model.specs.Events.{Clean, Event, Other, command_of, event_strings, world_after}
 use Rattle.tpm_model.specs.Fresh.{fresh_parts}
 use Rattle.tpm_model.specs.Respond.{respond}
 use Rattle.tpm_model.specs.Rules.{HasRules}
 use Rattle.tpm_model.specs.WholeTie.{IsLive}
-use Rattle.tpm_model.specs.World.{LiveIndex, World, hashed_world}
+use Rattle.tpm_model.specs.World.{BoundObject, LiveIndex, World, hashed_world}
 use Rattle.tpm_worlds.specs.CommandLists.{state_after}
 use Rattle.tpm_worlds.specs.EventLists.{Safe, world_after_all}
 use Rattle.tpm_worlds.specs.FreshWorld.{fresh_world}
@@ -22,7 +21,7 @@ use Rattle.tpm_worlds.proofs.CommandLists.{next}
 use Rattle.tpm_worlds.proofs.EachUnseal.{safe_before}
 use Rattle.tpm_worlds.proofs.Fresh.{fresh_tied}
 use Rattle.tpm_worlds.proofs.TrailReads.{GrowsAll}
-use Rattle.tpm_worlds.proofs.WholeAfter.{grows_accepted, known_after, whole_after}
+use Rattle.tpm_worlds.proofs.WholeAfter.{grows_accepted, known_after, ranges_after, whole_after}
 
 -- each state that the commands lead to has the rules
 abbrev pub AreRuled : List Command → Parts → Type 0
@@ -77,6 +76,7 @@ full_after_all (event ∷ events) s w rules ruled sound tie clean safe =
     (record {
       whole = whole_after event s w rules sound.0 tie.known tie.whole (clean_before v (world_after_all events t v) grows clean) (safe_before v (world_after_all events t v) grows.strings safe);
       known = known_after event s w tie.known;
+      ranges = ranges_after event s w sound.0 tie.ranges;
     }) clean safe
 
 -- a TPM that was never used hangs together with the world in which nobody has done anything
@@ -94,10 +94,19 @@ fresh_full banks = record {
     filed = tt;
   };
   known = λ update k. absurd (omega (arith, k.1));
+  ranges = λ handle bound e. absurd (nothing_bound bound (sym (get-empty nat_cmp handle) ∙ e));
 }
   where
+    nothing_bound : (bound : BoundObject) → None ≡ Some bound → ⊥
+    nothing_bound bound e = cc
+
     nothing_live : (live : LiveIndex) → None ≡ Some live → ⊥
     nothing_live live e = cc
 
     no_index : {handle : ℕ} {live : LiveIndex} → IsLive (fresh_parts banks) (fresh_world banks) handle live → ⊥
     no_index l = let e = l.found in cc
+
+-- nothing is asked of commands of anyone
+pub others_sound : (commands : List Command) (s : Parts) (w : World) → AreSoundEvents (map Other commands) s w
+others_sound [] s w = tt
+others_sound (c ∷ commands) s w = (tt, others_sound commands (respond c s).1 (world_after (Other c) s w))

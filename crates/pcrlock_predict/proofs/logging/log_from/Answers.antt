@@ -1,5 +1,5 @@
-use Rattle.std.proofs.Common.{◌≡◌, sym, ap, ◌∙◌}
-use Rattle.std.specs.Prelude.{Ok, Err}
+use Rattle.std.proofs.Common.{sym, ap, ◌∙◌}
+use Rattle.std.specs.Prelude.{Ok}
 use Rattle.pcrlock_predict.specs.Inputs.{plain_inputs}
 use Rattle.pcrlock_predict.specs.Log.{all_pcrs, logged}
 use Rattle.pcrlock_predict.specs.Present.{values_at}

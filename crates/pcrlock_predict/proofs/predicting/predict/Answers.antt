@@ -1,5 +1,5 @@
 use Rattle.std.proofs.Common.{◌≡◌, ◌∙◌, option_copied}
-use Rattle.std.specs.Prelude.{Err, IfErr}
+use Rattle.std.specs.Prelude.{Err}
 use Rattle.pcrlock_line.specs.Machine.{Tells}
 use Rattle.pcrlock_input.specs.declared.error.InputError.TheVariants as errors
 use Rattle.pcrlock_predict.specs.Inputs.{inputs_of, plain_inputs}

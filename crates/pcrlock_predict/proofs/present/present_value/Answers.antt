@@ -1,5 +1,4 @@
-use Rattle.std.proofs.Common.{◌≡◌, sym, ap, ◌∙◌}
-use Rattle.std.specs.Prelude.{Some}
+use Rattle.std.proofs.Common.{ap, ◌∙◌}
 use Rattle.pcrlock_predict.specs.Present.{reading_of}
 use Rattle.pcrlock_predict.specs.Running.{Runs}
 use Rattle.pcrlock_predict.proofs.Ended.{without_fault}
