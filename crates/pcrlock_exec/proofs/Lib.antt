@@ -2,3 +2,4 @@ pub mod Rules
 pub mod Lists
 pub mod Steps
 pub mod Stands
+pub mod Kept

@@ -15,9 +15,10 @@ ghost use Rattle.pcrlock_line.specs.Causes.{HasCauses};
 ghost use Rattle.pcrlock_line.specs.Machine.{Machine, Live, Tells, machine};
 ghost use Rattle.pcrlock_line.specs.Outcome.{Gives};
 ghost use Rattle.pcrlock_line.specs.Stopped.{StandsAmong};
-ghost use Rattle.pcrlock_line.specs.Worlds.{IsTiedTo};
+ghost use Rattle.pcrlock_line.specs.Worlds.{IsTied};
 ghost use Rattle.pcrlock_line.specs.declared.stop.Stop.TheVariants.{Memory as OutOfMemory};
-ghost use Rattle.pcrlock_exec.specs.Exec.{events_of, exec_text, exec_world, executed_line, tpm_exec_line};
+ghost use Rattle.pcrlock_exec.specs.Exec.{events_of, exec_strings, exec_text, exec_world, executed_line, tpm_exec_line};
+ghost use Rattle.pcrlock_exec.specs.Worlds.{tpm_exec_world};
 ghost use Rattle.pcrlock_exec.specs.Running.{HasSizes, IsPartWay, Keeps, Runs};
 
 use crate::{Input, find_commands};
@@ -170,8 +171,10 @@ pub fn tpm_exec<F: Files, T: Tpm>(
         → IfOk result (λ reply. Gives (F.held files.new) (T.stored tpm.new) words reply (tpm_exec_line path.now commands.now m)) }
     ensures stops { (words : Maybe (Sequence (Sequence ℕ))) (m : Machine) → Tells (F.held files.old) (T.stored tpm.old) words m
         → IfErr result (λ _. StandsAmong (F.held files.new) (T.stored tpm.new) (tpm_exec_line path.now commands.now m).stops) }
-    // A world that is tied to the state before follows the commands, and stays tied.
-    ensures tied { (list : Sequence TheCommand) (s : Parts) (w : World) → IsTiedTo s w → IsTiedTo (state_after list s) (exec_world list s w) }
+    // A world that is tied to what is stored follows the commands, and stays tied.
+    ensures tied { (m : Machine) (w : World) → IsTied m.device w → IsTied (tpm_exec_line path.now commands.now m).after.device (tpm_exec_world commands.now m w) }
+    // It has the strings of the commands behind those before.
+    ensures hashed { (list : Sequence TheCommand) (s : Parts) (w : World) → (exec_world list s w).hashed ≡ w.hashed ++ exec_strings list s }
     // So does one that is tied with the trails of sessions.
     ensures sealed { (list : Sequence TheCommand) (s : Parts) (w : World) → HasRules s → SealedTie s w → SealedTie (state_after list s) (exec_world list s w) }
     // Each Unseal of an object that is bound to one value of one PCR opens by that value alone.

@@ -20,3 +20,4 @@ pub use crate::decoding::decode;
 pub use crate::encoding::encode;
 pub use crate::error::DecodeError;
 pub use crate::file_tpm::FileTpm;
+pub use tpm_commands::{CommandsError, read_commands, response_line};

@@ -7,7 +7,8 @@ use Rattle.pcrlock_line.proofs.Devices.{stands}
 use Rattle.pcrlock_exec.specs.Exec.{exec_outcome}
 use Rattle.pcrlock_exec.specs.Input.{commands_at, input_found}
 use Rattle.pcrlock_exec.proofs.Stands.{read_causes, stands_unread, unread_causes}
-use Rattle.pcrlock_exec.proofs.Steps.{opens_by_value, sealed_after_all, tied_after_all}
+use Rattle.pcrlock_exec.proofs.Kept.{exec_hashed, exec_kept}
+use Rattle.pcrlock_exec.proofs.Steps.{opens_by_value, sealed_after_all}
 use Rattle.pcrlock_exec.proofs.exec.tpm_exec.Goals as goal
 
 pub returns-in-Ok-Commands-clause-causes : goal.returns-in-Ok-Commands-clause-causes
@@ -32,7 +33,10 @@ returns-in-Err-clause-stops g c = λ words m tells.
     (stands (g.F.Files.held c.find_commands.new.files) _ words m (record { files = c.find_commands.ensures.same ∙ tells.files; state = tells.state; draws = tells.draws; rules = tells.rules }))
 
 pub returns-in-Ok-Commands-clause-tied : goal.returns-in-Ok-Commands-clause-tied
-returns-in-Ok-Commands-clause-tied g c = λ list s w tie. tied_after_all list s w tie
+returns-in-Ok-Commands-clause-tied g c = λ m w tie. exec_kept c.args.path.now c.args.commands.now m w tie
+
+pub returns-in-Ok-Commands-clause-hashed : goal.returns-in-Ok-Commands-clause-hashed
+returns-in-Ok-Commands-clause-hashed g c = λ list s w. exec_hashed list s w
 
 pub returns-in-Ok-Commands-clause-sealed : goal.returns-in-Ok-Commands-clause-sealed
 returns-in-Ok-Commands-clause-sealed g c = λ list s w rules tie. sealed_after_all list s w rules tie
@@ -41,7 +45,10 @@ pub returns-in-Ok-Commands-clause-unseals : goal.returns-in-Ok-Commands-clause-u
 returns-in-Ok-Commands-clause-unseals g c = λ list s w rules tie safe. opens_by_value list s w rules tie safe
 
 pub returns-in-Ok-Refused-clause-tied : goal.returns-in-Ok-Refused-clause-tied
-returns-in-Ok-Refused-clause-tied g c = λ list s w tie. tied_after_all list s w tie
+returns-in-Ok-Refused-clause-tied g c = λ m w tie. exec_kept c.args.path.now c.args.commands.now m w tie
+
+pub returns-in-Ok-Refused-clause-hashed : goal.returns-in-Ok-Refused-clause-hashed
+returns-in-Ok-Refused-clause-hashed g c = λ list s w. exec_hashed list s w
 
 pub returns-in-Ok-Refused-clause-sealed : goal.returns-in-Ok-Refused-clause-sealed
 returns-in-Ok-Refused-clause-sealed g c = λ list s w rules tie. sealed_after_all list s w rules tie
@@ -50,7 +57,10 @@ pub returns-in-Ok-Refused-clause-unseals : goal.returns-in-Ok-Refused-clause-uns
 returns-in-Ok-Refused-clause-unseals g c = λ list s w rules tie safe. opens_by_value list s w rules tie safe
 
 pub returns-in-Err-clause-tied : goal.returns-in-Err-clause-tied
-returns-in-Err-clause-tied g c = λ list s w tie. tied_after_all list s w tie
+returns-in-Err-clause-tied g c = λ m w tie. exec_kept c.args.path.now c.args.commands.now m w tie
+
+pub returns-in-Err-clause-hashed : goal.returns-in-Err-clause-hashed
+returns-in-Err-clause-hashed g c = λ list s w. exec_hashed list s w
 
 pub returns-in-Err-clause-sealed : goal.returns-in-Err-clause-sealed
 returns-in-Err-clause-sealed g c = λ list s w rules tie. sealed_after_all list s w rules tie
