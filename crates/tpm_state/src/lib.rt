@@ -13,6 +13,8 @@ mod indices;
 mod layout;
 mod objects;
 mod sessions;
+#[cfg(test)]
+mod tests;
 mod version;
 
 pub use crate::decoding::decode;
