@@ -14,6 +14,8 @@ mod kept;
 mod layout;
 mod objects;
 mod sessions;
+#[cfg(test)]
+mod tests;
 mod version;
 
 pub use crate::decoding::decode;
