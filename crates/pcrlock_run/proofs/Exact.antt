@@ -20,12 +20,10 @@ use Rattle.pcrlock_words.specs.declared.answer.Answer.{Answer}
 use Rattle.pcrlock_input.specs.Logs.{PlainLogs, logs_of}
 use Rattle.tpm_model.specs.declared.command.Command.{Command}
 use Rattle.tpm_model.specs.declared.parts.Parts.{Parts}
-use Rattle.tpm_model.specs.Events.{Event, command_of, world_after}
-use Rattle.tpm_model.specs.Respond.{respond}
-use Rattle.tpm_worlds.specs.EventLists.{world_after_all}
-use Rattle.tpm_worlds.proofs.Steady.{grows_after}
 use Rattle.pcrlock_exec.specs.Input.{commands_at}
-use Rattle.pcrlock_exec.specs.Exec.{events_of, exec_world}
+use Rattle.pcrlock_exec.specs.Exec.{exec_strings, exec_world}
+use Rattle.pcrlock_exec.proofs.Kept.{exec_hashed}
+use Rattle.pcrlock_exec.specs.Worlds.{read_world}
 use Rattle.pcrlock_tpm.specs.Boot.{boot_world}
 use Rattle.pcrlock_tpm.specs.Extend.{extend_world}
 use Rattle.pcrlock_seal.specs.EnrollWorld.{enroll_world}
@@ -36,7 +34,7 @@ use Rattle.pcrlock_open.proofs.Opens.{opens}
 use Rattle.pcrlock_run.specs.Script.{unseal_outcome, line, can_boot}
 use Rattle.pcrlock_run.specs.Whole.{Scripted, script_in, script_bytes_limit}
 use Rattle.pcrlock_run.specs.Leaves.{Safe}
-use Rattle.pcrlock_run.specs.Worlds.{booted_world, enrolled_world, executed_world, command_world, answered_world, line_world, script_world, lines_run, world_as, request_world, spelled_world, run_world}
+use Rattle.pcrlock_run.specs.Worlds.{booted_world, enrolled_world, command_world, answered_world, line_world, script_world, lines_run, world_as, request_world, spelled_world, run_world}
 use Rattle.pcrlock_run.specs.Headline.{UnsealIsExact, token_in, TokenIsExact, CommandIsExact, LinesAreExact, IsExactAs, RequestIsExact, RunIsExact}
 use Rattle.pcrlock_run.proofs.Kept.{line_kept}
 
@@ -72,14 +70,13 @@ grows_booted : (locality : Option ℕ) (banks : Banks) (logs : Result PlainLogs 
 grows_booted locality banks (Err answer) m w = λ x h. h
 grows_booted locality banks (Ok logs) m w = grows_state m.device m w (λ (live : Live) (v : World). boot_world locality banks logs live.state v) (λ live x h. h)
 
-grows_events : (events : List Event) (s : Parts) (w : World) → Grows w (world_after_all events s w)
-grows_events [] s w = λ x h. h
-grows_events (event ∷ events) s w = λ x h. grows_events events (respond (command_of event) s).1 (world_after event s w) x (grows_after event s w x h)
+grows_executed : (commands : List Command) (s : Parts) (w : World) → Grows w (exec_world commands s w)
+grows_executed commands s w = λ x h.
+    subst (λ (strings : List HashedString). Contains strings x) (sym (exec_hashed commands s w)) (Contains-append_left w.hashed (exec_strings commands s) x h)
 
-grows_executed : (read : Result (List Command) Answer) (m : Machine) (w : World) → Grows w (executed_world read m w)
-grows_executed (Err answer) m w = λ x h. h
-grows_executed (Ok commands) m w =
-    grows_state m.device m w (λ (live : Live) (v : World). exec_world commands live.state v) (λ live. grows_events (events_of commands) live.state w)
+grows_read : (read : Result (List Command) Answer) (m : Machine) (w : World) → Grows w (read_world read m w)
+grows_read (Err answer) m w = λ x h. h
+grows_read (Ok commands) m w = grows_state m.device m w (λ (live : Live) (v : World). exec_world commands live.state v) (λ live. grows_executed commands live.state w)
 
 grows_command : (state : List ℕ) (request : Request) (m : Machine) (w : World) → Grows w (command_world state request m w)
 grows_command state (requests.TpmExtend pcr bytes) m w =
@@ -91,7 +88,7 @@ grows_command state (requests.ListComponents folders) m w = λ x h. h
 grows_command state (requests.TpmBoot firmware user locality banks) m w = grows_if (can_boot locality banks) w _ (grows_booted locality banks (logs_of m.files firmware user) m w)
 grows_command state (requests.Log firmware user folders bank) m w = λ x h. h
 grows_command state (requests.Predict firmware user folders location pcr bank joint) m w = λ x h. h
-grows_command state (requests.TpmExec commands) m w = grows_executed (commands_at m.files commands) m w
+grows_command state (requests.TpmExec commands) m w = grows_read (commands_at m.files commands) m w
 grows_command state (requests.Script file policy index) m w = λ x h. h
 
 grows_answered : (state : List ℕ) (o : Option Request) (m : Machine) (w : World) → Grows w (answered_world state o m w)

@@ -26,7 +26,7 @@ use Rattle.pcrlock_run.specs.Lines.{lines_of, line_count}
 use Rattle.pcrlock_run.specs.Script.{command_line, enroll_outcome, unseal_outcome, answered, line, script_from}
 use Rattle.pcrlock_run.specs.Whole.{alone, script_of_text, script_of_bytes, script_of_content, run_script, Scripted, script_in, run_as, run_request, run_spelled, script_bytes_limit, script_lines_limit}
 use Rattle.pcrlock_run.specs.Leaves.{IsNoScript}
-use Rattle.pcrlock_run.proofs.Executing.{executed_first}
+use Rattle.pcrlock_exec.proofs.Kept.{exec_first}
 use Rattle.pcrlock_run.proofs.Booting.{boot_first}
 use Rattle.pcrlock_run.proofs.Folds.{begins_at}
 
@@ -65,7 +65,7 @@ command_first held stored state (requests.ListComponents folders) m at = inl at
 command_first held stored state (requests.TpmBoot firmware user locality banks) m at = boot_first held stored state firmware user locality banks m at
 command_first held stored state (requests.Log firmware user folders bank) m at = inl at
 command_first held stored state (requests.Predict firmware user folders location pcr bank joint) m at = inl at
-command_first held stored state (requests.TpmExec commands) m at = executed_first held stored state commands m at
+command_first held stored state (requests.TpmExec commands) m at = exec_first held stored state commands m at
 command_first held stored state (requests.Script file policy index) m at = inl at
 
 answered_first : (held : Option FileMap) (stored : Option Stored) (state : List ℕ) (o : Option Request) (m : Machine) → StandsAt held stored m → StandsAmong held stored (answered state o m).stops

@@ -28,7 +28,7 @@ use Rattle.pcrlock_seal.specs.EnrollWorld.{enroll_world}
 use Rattle.pcrlock_seal.proofs.Enrolled.{enroll_tied, enroll_order, enroll_leaves}
 use Rattle.pcrlock_open.specs.Unseal.{unseal_line}
 use Rattle.pcrlock_open.proofs.Ties.{unseal_tied}
-use Rattle.pcrlock_run.proofs.Executing.{executed_kept}
+use Rattle.pcrlock_exec.proofs.Kept.{exec_kept}
 use Rattle.pcrlock_run.proofs.Booting.{boot_kept}
 use Rattle.pcrlock_run.specs.Lines.{lines_of, line_count}
 use Rattle.pcrlock_run.specs.Script.{enroll_outcome, unseal_outcome, command_line, answered, line, script_from}
@@ -92,7 +92,7 @@ command_kept state (requests.ListComponents folders) m w t = t
 command_kept state (requests.TpmBoot firmware user locality banks) m w t = boot_kept state firmware user locality banks m w t
 command_kept state (requests.Log firmware user folders bank) m w t = t
 command_kept state (requests.Predict firmware user folders location pcr bank joint) m w t = t
-command_kept state (requests.TpmExec commands) m w t = executed_kept state commands m w t
+command_kept state (requests.TpmExec commands) m w t = exec_kept state commands m w t
 command_kept state (requests.Script file policy index) m w t = t
 
 answered_kept : (state : List ℕ) (o : Option Request) (m : Machine) (w : World) → IsTied m.device w → IsTied (answered state o m).after.device (answered_world state o m w)

@@ -6,7 +6,6 @@ pub mod Parts
 pub mod Commands
 pub mod Texts
 pub mod Booting
-pub mod Executing
 pub mod Kept
 pub mod Exact
 pub mod Lasts

@@ -14,9 +14,7 @@ use Rattle.pcrlock_line.specs.Content.{Content, content_of}
 use Rattle.hash_bank.specs.declared.banks.Banks.{Banks}
 use Rattle.pcrlock_words.specs.declared.answer.Answer.{Answer}
 use Rattle.pcrlock_input.specs.Logs.{PlainLogs, logs_of}
-use Rattle.tpm_model.specs.declared.command.Command.{Command}
-use Rattle.pcrlock_exec.specs.Input.{commands_at}
-use Rattle.pcrlock_exec.specs.Exec.{exec_world}
+use Rattle.pcrlock_exec.specs.Worlds.{tpm_exec_world}
 use Rattle.pcrlock_tpm.specs.Boot.{boot_world}
 use Rattle.pcrlock_tpm.specs.Extend.{extend_world}
 use Rattle.pcrlock_seal.specs.EnrollWorld.{enroll_world}
@@ -34,11 +32,6 @@ abbrev pub booted_world : Option ℕ → Banks → Result PlainLogs Answer → M
 booted_world locality banks (Err answer) m w = w
 booted_world locality banks (Ok logs) m w = by_state m.device m w (λ (live : Live) (v : World). boot_world locality banks logs live.state v)
 
--- the world after the commands of a file, which are those of anyone
-abbrev pub executed_world : Result (List Command) Answer → Machine → World → World
-executed_world (Err answer) m w = w
-executed_world (Ok commands) m w = by_state m.device m w (λ (live : Live) (v : World). exec_world commands live.state v)
-
 -- the world after a command: a boot, an extend and the commands of a file are followed, an enrolled
 -- object is put in with its binding, and the strings of an unseal are hashed
 abbrev pub command_world : List ℕ → Request → Machine → World → World
@@ -50,7 +43,7 @@ command_world state (requests.ListComponents folders) m w = w
 command_world state (requests.TpmBoot firmware user locality banks) m w = if can_boot locality banks then booted_world locality banks (logs_of m.files firmware user) m w else w
 command_world state (requests.Log firmware user folders bank) m w = w
 command_world state (requests.Predict firmware user folders location pcr bank joint) m w = w
-command_world state (requests.TpmExec commands) m w = executed_world (commands_at m.files commands) m w
+command_world state (requests.TpmExec commands) m w = tpm_exec_world commands m w
 command_world state (requests.Script file policy index) m w = w
 
 -- the world after words that spell a request, or none
