@@ -5,6 +5,7 @@
 #![tactic(auto)]
 
 mod firmware;
+mod matching;
 mod records;
 mod scripts;
 mod trees;
@@ -28,6 +29,10 @@ fn main(rt: HostRuntime) -> anyhow::Result<()> {
             let count = trees::run(&rt, name, trees::SMALL, 1)?;
             println!(rt; "{name} {count}")?;
         }
+        for name in matching::NAMES {
+            let count = matching::run(alloc, name, matching::SMALL, 1)?;
+            println!(rt; "{name} {count}")?;
+        }
         for name in scripts::NAMES {
             let count = scripts::run(alloc, name, scripts::SMALL)?;
             println!(rt; "{name} {count}")?;
@@ -40,6 +45,8 @@ fn main(rt: HostRuntime) -> anyhow::Result<()> {
         firmware::run(alloc, name.as_str(), firmware::LARGE, rounds)?
     } else if name.as_str().starts_with("tree") {
         trees::run(&rt, name.as_str(), trees::LARGE, rounds)?
+    } else if name.as_str().starts_with("explain") || name.as_str().starts_with("foresee") {
+        matching::run(alloc, name.as_str(), matching::LARGE, rounds)?
     } else if name.as_str().starts_with("script") {
         scripts::run(alloc, name.as_str(), rounds)?
     } else {

@@ -1,4 +1,5 @@
-//! Running a script of extends, beside what `sha1` and `sha2` alone take for the same hashes.
+//! Running a script of extends, beside what `sha1` and `sha2` alone take for the same hashes, and a file
+//! of TPM commands.
 use hash_bank::Banks;
 use pcrlock_run::run as run_words;
 use pl_base::{List, ListEntropy, MemFiles, MemSink, Memory, Name, RealSink};
@@ -10,7 +11,7 @@ use tpm_device::SoftTpm;
 use tpm_model::State;
 
 /// The names of the benchmarks.
-pub const NAMES: [&str; 2] = ["script-lines", "script-hashes"];
+pub const NAMES: [&str; 3] = ["script-lines", "script-commands", "script-hashes"];
 
 /// The lines of a small script.
 pub const SMALL: u32 = 3;
@@ -37,30 +38,41 @@ fn script(alloc: Global, lines: u32) -> Result<String, AllocError> {
     Ok(text)
 }
 
-/// The words by which a script is run.
-fn words(alloc: Global) -> Result<List<Name>, Memory> {
+/// Commands that fill the TPM's table of sessions, and then ask so many times for the digest of the last
+/// one.
+fn commands(alloc: Global, lines: u32) -> Result<String, AllocError> {
+    let mut text = String::new(alloc);
+    for _ in 0..64 {
+        text.push_str("start-session\n")?;
+    }
+    for _ in 0..lines {
+        text.push_str("policy-get-digest 0300003f\n")?;
+    }
+    Ok(text)
+}
+
+/// The words by which the file is run.
+fn words(alloc: Global, command: &str, option: &str) -> Result<List<Name>, Memory> {
     let mut words = List::new(alloc);
-    for word in ["state", "script", "--file", "script"] {
+    for word in ["state", command, option, "file"] {
         words.push(Name::from_text(alloc, word)?)?;
     }
     Ok(words)
 }
 
-/// Runs a script of so many lines over files and a TPM in memory, its output dropped, and answers
-/// its status.
-fn lines(alloc: Global, count: u32) -> anyhow::Result<usize> {
+/// Runs the words over a file of this text and a TPM in memory, their output dropped, and answers their
+/// status.
+fn run_over(alloc: Global, words: &[Name], text: String) -> anyhow::Result<usize> {
     let mut files = MemFiles::new(alloc, List::new(alloc));
-    let text = script(alloc, count)?;
-    files.put("script", text.as_bytes())?;
+    files.put("file", text.as_bytes())?;
     drop(text);
     let mut tpm = SoftTpm::new(State::fresh(alloc, ALL_BANKS), List::new(alloc));
     let mut entropy = ListEntropy::new(List::new(alloc), List::new(alloc));
     let mut out = RealSink::new(io::sink());
     let mut err = MemSink::new(alloc, List::new(alloc));
-    let words = words(alloc)?;
     let status = run_words(
         alloc,
-        words.as_slice(),
+        words,
         &mut files,
         &mut tpm,
         &mut entropy,
@@ -92,7 +104,14 @@ fn hashes(count: u32) -> usize {
 /// what the hashes sum to.
 pub fn run(alloc: Global, name: &str, count: u32) -> anyhow::Result<usize> {
     match name {
-        "script-lines" => lines(alloc, count),
+        "script-lines" => {
+            let words = words(alloc, "script", "--file")?;
+            run_over(alloc, words.as_slice(), script(alloc, count)?)
+        }
+        "script-commands" => {
+            let words = words(alloc, "tpm-exec", "--commands")?;
+            run_over(alloc, words.as_slice(), commands(alloc, count)?)
+        }
         _ => Ok(hashes(count)),
     }
 }

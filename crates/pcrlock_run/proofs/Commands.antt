@@ -8,6 +8,10 @@ use Rattle.pcrlock_line.specs.Machine.{Machine}
 use Rattle.hash_bank.specs.declared.banks.Banks.{Banks}
 use Rattle.pcrlock_read.specs.Cel.{cel_line}
 use Rattle.pcrlock_read.specs.ComponentLines.{list_components_line}
+use Rattle.predictor.specs.declared.window.Window.{Window}
+use Rattle.pcrlock_predict.specs.Log.{log_line}
+use Rattle.pcrlock_predict.specs.Predict.{predict_line}
+use Rattle.pcrlock_exec.specs.Exec.{tpm_exec_line}
 use Rattle.pcrlock_tpm.specs.Extend.{tpm_extend_line}
 use Rattle.hash_bank.specs.declared.bank.Bank.{Bank}
 use Rattle.pcrlock_words.specs.declared.answer.Answer.TheVariants as answers
@@ -53,6 +57,20 @@ pub starts : (state : List ℕ) (request : Request) (firmware user : Option (Lis
     → command_line state request m ≡ boot_line state firmware user locality banks m
 unfolding command_line
 starts state request firmware user locality banks m is = ap (λ (r : Request). command_line state r m) is
+
+pub logs : (state : List ℕ) (request : Request) (firmware user : Option (List ℕ)) (folders : List (List ℕ)) (bank : Bank) (m : Machine) → request ≡ requests.Log firmware user folders bank
+    → command_line state request m ≡ log_line state firmware user folders bank m
+unfolding command_line
+logs state request firmware user folders bank m is = ap (λ (r : Request). command_line state r m) is
+
+pub predicts : (state : List ℕ) (request : Request) (firmware user : Option (List ℕ)) (folders : List (List ℕ)) (location : Window) (pcrs : ℕ) (bank : Bank) (joint : Bool) (m : Machine)
+    → request ≡ requests.Predict firmware user folders location pcrs bank joint → command_line state request m ≡ predict_line state firmware user folders location pcrs bank joint m
+unfolding command_line
+predicts state request firmware user folders location pcrs bank joint m is = ap (λ (r : Request). command_line state r m) is
+
+pub executes : (state : List ℕ) (request : Request) (commands : List ℕ) (m : Machine) → request ≡ requests.TpmExec commands → command_line state request m ≡ tpm_exec_line state commands m
+unfolding command_line
+executes state request commands m is = ap (λ (r : Request). command_line state r m) is
 
 -- what holds of an outcome holds of one that equals it
 pub by_outcome : (a b : Outcome) (L : Outcome → Type 0) → a ≡ b → L b → L a

@@ -24,8 +24,9 @@ use Rattle.pcrlock_seal.proofs.Stops.{enrolled_first}
 use Rattle.pcrlock_open.proofs.Stops.{unseal_first}
 use Rattle.pcrlock_run.specs.Lines.{lines_of, line_count}
 use Rattle.pcrlock_run.specs.Script.{command_line, enroll_outcome, unseal_outcome, answered, line, script_from}
-use Rattle.pcrlock_run.specs.Whole.{alone, script_of_text, script_of_bytes, script_of_content, run_script, run_request, run_spelled, script_bytes_limit, script_lines_limit}
+use Rattle.pcrlock_run.specs.Whole.{alone, script_of_text, script_of_bytes, script_of_content, run_script, Scripted, script_in, run_as, run_request, run_spelled, script_bytes_limit, script_lines_limit}
 use Rattle.pcrlock_run.specs.Leaves.{IsNoScript}
+use Rattle.pcrlock_exec.proofs.Kept.{exec_first}
 use Rattle.pcrlock_run.proofs.Booting.{boot_first}
 use Rattle.pcrlock_run.proofs.Folds.{begins_at}
 
@@ -63,7 +64,8 @@ command_first held stored state (requests.Cel firmware user) m at = inl at
 command_first held stored state (requests.ListComponents folders) m at = inl at
 command_first held stored state (requests.TpmBoot firmware user locality banks) m at = boot_first held stored state firmware user locality banks m at
 command_first held stored state (requests.Log firmware user folders bank) m at = inl at
-command_first held stored state (requests.TpmExec commands) m at = inl at
+command_first held stored state (requests.Predict firmware user folders location pcr bank joint) m at = inl at
+command_first held stored state (requests.TpmExec commands) m at = exec_first held stored state commands m at
 command_first held stored state (requests.Script file policy index) m at = inl at
 
 answered_first : (held : Option FileMap) (stored : Option Stored) (state : List ℕ) (o : Option Request) (m : Machine) → StandsAt held stored m → StandsAmong held stored (answered state o m).stops
@@ -95,16 +97,12 @@ content_first held stored state file policy (content.Bytes bytes) m at = bytes_f
 pub script_first : (held : Option FileMap) (stored : Option Stored) (state file policy : List ℕ) (m : Machine) → StandsAt held stored m → StandsAmong held stored (run_script state file policy m).stops
 script_first held stored state file policy m at = content_first held stored state file policy (content_of m.files file script_bytes_limit) m at
 
+as_first : (held : Option FileMap) (stored : Option Stored) (state : List ℕ) (o : Option Scripted) (request : Request) (m : Machine) → StandsAt held stored m → StandsAmong held stored (run_as state o request m).stops
+as_first held stored state None request m at = command_first held stored state request m at
+as_first held stored state (Some script) request m at = script_first held stored state script.file script.policy m at
+
 request_first : (held : Option FileMap) (stored : Option Stored) (state : List ℕ) (request : Request) (m : Machine) → StandsAt held stored m → StandsAmong held stored (run_request state request m).stops
-request_first held stored state (requests.Script file policy index) m at = script_first held stored state file policy m at
-request_first held stored state (requests.Enroll token policy key literal bank) m at = command_first held stored state (requests.Enroll token policy key literal bank) m at
-request_first held stored state (requests.Unseal token policy) m at = command_first held stored state (requests.Unseal token policy) m at
-request_first held stored state (requests.TpmExtend pcr bytes) m at = command_first held stored state (requests.TpmExtend pcr bytes) m at
-request_first held stored state (requests.Cel firmware user) m at = command_first held stored state (requests.Cel firmware user) m at
-request_first held stored state (requests.ListComponents folders) m at = command_first held stored state (requests.ListComponents folders) m at
-request_first held stored state (requests.TpmBoot firmware user locality banks) m at = command_first held stored state (requests.TpmBoot firmware user locality banks) m at
-request_first held stored state (requests.Log firmware user folders bank) m at = command_first held stored state (requests.Log firmware user folders bank) m at
-request_first held stored state (requests.TpmExec commands) m at = command_first held stored state (requests.TpmExec commands) m at
+request_first held stored state request m at = as_first held stored state (script_in request) request m at
 
 pub spelled_first : (held : Option FileMap) (stored : Option Stored) (draws : Option (List (List ℕ))) (state : List ℕ) (o : Option Request) (m : Machine) → Tells held stored draws m → StandsAmong held stored (run_spelled state o m).stops
 spelled_first held stored draws state None m tells = inl (stands held stored draws m tells)

@@ -28,11 +28,12 @@ use Rattle.pcrlock_seal.specs.EnrollWorld.{enroll_world}
 use Rattle.pcrlock_seal.proofs.Enrolled.{enroll_tied, enroll_order, enroll_leaves}
 use Rattle.pcrlock_open.specs.Unseal.{unseal_line}
 use Rattle.pcrlock_open.proofs.Ties.{unseal_tied}
+use Rattle.pcrlock_exec.proofs.Kept.{exec_kept}
 use Rattle.pcrlock_run.proofs.Booting.{boot_kept}
 use Rattle.pcrlock_run.specs.Lines.{lines_of, line_count}
 use Rattle.pcrlock_run.specs.Script.{enroll_outcome, unseal_outcome, command_line, answered, line, script_from}
-use Rattle.pcrlock_run.specs.Whole.{alone, script_of_text, script_of_bytes, script_of_content, run_request, run_spelled, run_line, script_bytes_limit, script_lines_limit}
-use Rattle.pcrlock_run.specs.Worlds.{enrolled_world, command_world, answered_world, line_world, script_world, text_lines, lines_run, request_world, spelled_world, run_world}
+use Rattle.pcrlock_run.specs.Whole.{alone, script_of_text, script_of_bytes, script_of_content, Scripted, script_in, run_as, run_request, run_spelled, run_line, script_bytes_limit, script_lines_limit}
+use Rattle.pcrlock_run.specs.Worlds.{enrolled_world, command_world, answered_world, line_world, script_world, text_lines, lines_run, world_as, request_world, spelled_world, run_world}
 
 -- a world with more strings
 pub hashed_tied : (kept : Stored) (w : World) (more : List HashedString) → IsTied kept w → IsTied kept (hashed_world more w)
@@ -90,7 +91,8 @@ command_kept state (requests.Cel firmware user) m w t = t
 command_kept state (requests.ListComponents folders) m w t = t
 command_kept state (requests.TpmBoot firmware user locality banks) m w t = boot_kept state firmware user locality banks m w t
 command_kept state (requests.Log firmware user folders bank) m w t = t
-command_kept state (requests.TpmExec commands) m w t = t
+command_kept state (requests.Predict firmware user folders location pcr bank joint) m w t = t
+command_kept state (requests.TpmExec commands) m w t = exec_kept state commands m w t
 command_kept state (requests.Script file policy index) m w t = t
 
 answered_kept : (state : List ℕ) (o : Option Request) (m : Machine) (w : World) → IsTied m.device w → IsTied (answered state o m).after.device (answered_world state o m w)
@@ -126,17 +128,14 @@ content_kept state file policy content.Missing m w t = t
 content_kept state file policy (content.TooLarge size) m w t = t
 content_kept state file policy (content.Bytes bytes) m w t = bytes_kept state file policy bytes (nat_lt (utf8_valid_len bytes) (length bytes)) m w t
 
+as_kept : (state : List ℕ) (o : Option Scripted) (request : Request) (m : Machine) (w : World) → IsTied m.device w
+    → IsTied (run_as state o request m).after.device (world_as state o request m w)
+as_kept state None request m w t = command_kept state request m w t
+as_kept state (Some script) request m w t = content_kept state script.file script.policy (content_of m.files script.file script_bytes_limit) m w t
+
 request_kept : (state : List ℕ) (request : Request) (m : Machine) (w : World) → IsTied m.device w
     → IsTied (run_request state request m).after.device (request_world state request m w)
-request_kept state (requests.Script file policy index) m w t = content_kept state file policy (content_of m.files file script_bytes_limit) m w t
-request_kept state (requests.Enroll token policy key literal bank) m w t = command_kept state (requests.Enroll token policy key literal bank) m w t
-request_kept state (requests.Unseal token policy) m w t = command_kept state (requests.Unseal token policy) m w t
-request_kept state (requests.TpmExtend pcr bytes) m w t = command_kept state (requests.TpmExtend pcr bytes) m w t
-request_kept state (requests.Cel firmware user) m w t = command_kept state (requests.Cel firmware user) m w t
-request_kept state (requests.ListComponents folders) m w t = command_kept state (requests.ListComponents folders) m w t
-request_kept state (requests.TpmBoot firmware user locality banks) m w t = command_kept state (requests.TpmBoot firmware user locality banks) m w t
-request_kept state (requests.Log firmware user folders bank) m w t = command_kept state (requests.Log firmware user folders bank) m w t
-request_kept state (requests.TpmExec commands) m w t = command_kept state (requests.TpmExec commands) m w t
+request_kept state request m w t = as_kept state (script_in request) request m w t
 
 spelled_kept : (state : List ℕ) (o : Option Request) (m : Machine) (w : World) → IsTied m.device w
     → IsTied (run_spelled state o m).after.device (spelled_world state o m w)

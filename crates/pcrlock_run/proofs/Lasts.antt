@@ -16,6 +16,7 @@ use Rattle.pcrlock_tpm.proofs.Extends.{last_stop}
 use Rattle.pcrlock_seal.specs.Enroll.{enrolled_line, enroll_line}
 use Rattle.pcrlock_seal.proofs.Stops.{enrolled_last}
 use Rattle.pcrlock_open.proofs.Stops.{unseal_last}
+use Rattle.pcrlock_exec.proofs.Kept.{exec_last}
 use Rattle.pcrlock_run.proofs.Booting.{boot_last}
 use Rattle.pcrlock_run.specs.Script.{command_line, enroll_outcome, unseal_outcome}
 
@@ -49,5 +50,6 @@ command_last held stored state (requests.Cel firmware user) m = λ at. inl at
 command_last held stored state (requests.ListComponents folders) m = λ at. inl at
 command_last held stored state (requests.TpmBoot firmware user locality banks) m = λ at. boot_last held stored state firmware user locality banks m at
 command_last held stored state (requests.Log firmware user folders bank) m = λ at. inl at
-command_last held stored state (requests.TpmExec commands) m = λ at. inl at
+command_last held stored state (requests.Predict firmware user folders location pcr bank joint) m = λ at. inl at
+command_last held stored state (requests.TpmExec commands) m = λ at. exec_last held stored state commands m at
 command_last held stored state (requests.Script file policy index) m = λ at. inl at

@@ -12,7 +12,6 @@ use Rattle.pl_base.specs.FileMap.{FileMap}
 use Rattle.tpm_device.specs.Stored.{Stored}
 use Rattle.pcrlock_words.specs.declared.answer.Answer.{Answer}
 use Rattle.pcrlock_words.specs.declared.request.Request.{Request}
-use Rattle.pcrlock_words.specs.declared.request.Request.TheVariants as requests
 use Rattle.pcrlock_words.specs.Requests.{request_of}
 use Rattle.pcrlock_words.specs.Texts.{answer_text}
 use Rattle.pcrlock_line.specs.Machine.{Machine, Tells}
@@ -24,7 +23,7 @@ use Rattle.pcrlock_run.specs.declared.status.Status.{Status}
 use Rattle.pcrlock_run.specs.Status.{number_of, refusal_status}
 use Rattle.pcrlock_run.specs.Says.{Says}
 use Rattle.pcrlock_run.specs.Script.{Whole, command_line}
-use Rattle.pcrlock_run.specs.Whole.{alone, run_request, run_spelled, run_line, script_of_bytes, script_of_text}
+use Rattle.pcrlock_run.specs.Whole.{alone, Scripted, script_in, run_as, run_script, run_request, run_spelled, run_line, script_of_bytes, script_of_text}
 use Rattle.pcrlock_run.specs.Leaves.{Safe, Leaves, IsNoScript}
 
 pub utf8_script : (state file policy bytes text : List ℕ) (m : Machine) → IsUtf8 bytes → text ≡ bytes → script_of_bytes state file policy bytes m ≡ script_of_text state policy text m
@@ -68,15 +67,11 @@ refused_stops held stored draws answer m whole (Err stop) is tells = subst (λ (
 
 -- the whole of a request that is no script's
 pub alone_request : (state : List ℕ) (request : Request) (m : Machine) → IsNoScript (Some request) → run_request state request m ≡ alone (command_line state request m)
-alone_request state (requests.Script file policy index) m none = absurd none
-alone_request state (requests.Enroll token policy key literal bank) m none = refl
-alone_request state (requests.Unseal token policy) m none = refl
-alone_request state (requests.TpmExtend pcr bytes) m none = refl
-alone_request state (requests.Cel firmware user) m none = refl
-alone_request state (requests.ListComponents folders) m none = refl
-alone_request state (requests.TpmBoot firmware user locality banks) m none = refl
-alone_request state (requests.Log firmware user folders bank) m none = refl
-alone_request state (requests.TpmExec commands) m none = refl
+alone_request state request m none = ap (λ (o : Option Scripted). run_as state o request m) none
+
+-- the whole of a request that runs a script
+pub scripted_request : (state file policy : List ℕ) (request : Request) (m : Machine) → script_in request ≡ Some (record { file = file; policy = policy }) → run_request state request m ≡ run_script state file policy m
+scripted_request state file policy request m is = ap (λ (o : Option Scripted). run_as state o request m) is
 
 -- words behind the path of a state
 pub spelled_words : (words : List (List ℕ)) (state : List ℕ) (m : Machine) → slice_get words 0 ≡ Some state → run_line words m ≡ run_spelled state (request_of words None) m

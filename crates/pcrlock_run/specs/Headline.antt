@@ -11,7 +11,7 @@ use Rattle.pcrlock_line.specs.Machine.{Machine, Live, machine}
 use Rattle.pcrlock_line.specs.Content.{content_of}
 use Rattle.pcrlock_open.specs.Headline.{IsEnrolled, OpensExactly}
 use Rattle.pcrlock_run.specs.Script.{unseal_outcome, line}
-use Rattle.pcrlock_run.specs.Whole.{script_bytes_limit}
+use Rattle.pcrlock_run.specs.Whole.{Scripted, script_in, script_bytes_limit}
 use Rattle.pcrlock_run.specs.Worlds.{line_world, lines_run}
 
 -- for each object of the world whose token stands at the path, while a session can be started
@@ -20,18 +20,20 @@ UnsealIsExact state token m w =
     (live : Live) (handle : ℕ) (literal : Literal) (key : List ℕ) → m ≡ machine live → IsEnrolled live w token handle literal key
     → OpensExactly (unseal_outcome state token m).ending key literal live
 
--- for a command, if it is `unseal`
+-- the token that a request opens
+abbrev pub token_in : Request → Option (List ℕ)
+token_in (requests.Unseal token policy) = Some token
+token_in _ = None
+
+-- where a token is opened
+abbrev pub TokenIsExact : List ℕ → Option (List ℕ) → Machine → World → Type 0
+TokenIsExact state None m w = Unit {0}
+TokenIsExact state (Some token) m w = UnsealIsExact state token m w
+
+-- for words that spell a request, or none
 abbrev pub CommandIsExact : List ℕ → Option Request → Machine → World → Type 0
-CommandIsExact state (Some (requests.Unseal token policy)) m w = UnsealIsExact state token m w
-CommandIsExact state (Some (requests.Enroll token policy key literal bank)) m w = Unit {0}
-CommandIsExact state (Some (requests.TpmExtend pcr bytes)) m w = Unit {0}
-CommandIsExact state (Some (requests.Cel firmware user)) m w = Unit {0}
-CommandIsExact state (Some (requests.ListComponents folders)) m w = Unit {0}
-CommandIsExact state (Some (requests.TpmBoot firmware user locality banks)) m w = Unit {0}
-CommandIsExact state (Some (requests.Log firmware user folders bank)) m w = Unit {0}
-CommandIsExact state (Some (requests.TpmExec commands)) m w = Unit {0}
-CommandIsExact state (Some (requests.Script file policy index)) m w = Unit {0}
 CommandIsExact state None m w = Unit {0}
+CommandIsExact state (Some request) m w = TokenIsExact state (token_in request) m w
 
 -- for each line of a script, at the machine and the world that the lines before it leave
 abbrev pub LinesAreExact : List ℕ → List ℕ → List (List ℕ) → Machine → World → Type 0
@@ -40,19 +42,16 @@ LinesAreExact state policy (text ∷ texts) m w =
     CommandIsExact state (request_of (words_of text) (Some policy)) m w
     × LinesAreExact state policy texts (line state (words_of text) policy m).after (line_world state (words_of text) policy m w)
 
--- for a whole run
-abbrev pub RequestIsExact : List ℕ → Option Request → Machine → World → Type 0
-RequestIsExact state (Some (requests.Script file policy index)) m w = LinesAreExact state policy (lines_run (content_of m.files file script_bytes_limit)) m w
-RequestIsExact state (Some (requests.Unseal token policy)) m w = UnsealIsExact state token m w
-RequestIsExact state (Some (requests.Enroll token policy key literal bank)) m w = Unit {0}
-RequestIsExact state (Some (requests.TpmExtend pcr bytes)) m w = Unit {0}
-RequestIsExact state (Some (requests.Cel firmware user)) m w = Unit {0}
-RequestIsExact state (Some (requests.ListComponents folders)) m w = Unit {0}
-RequestIsExact state (Some (requests.TpmBoot firmware user locality banks)) m w = Unit {0}
-RequestIsExact state (Some (requests.Log firmware user folders bank)) m w = Unit {0}
-RequestIsExact state (Some (requests.TpmExec commands)) m w = Unit {0}
-RequestIsExact state None m w = Unit {0}
+-- for a request that runs this script, or none
+abbrev pub IsExactAs : List ℕ → Option Scripted → Request → Machine → World → Type 0
+IsExactAs state None request m w = TokenIsExact state (token_in request) m w
+IsExactAs state (Some script) request m w = LinesAreExact state script.policy (lines_run (content_of m.files script.file script_bytes_limit)) m w
 
+abbrev pub RequestIsExact : List ℕ → Option Request → Machine → World → Type 0
+RequestIsExact state None m w = Unit {0}
+RequestIsExact state (Some request) m w = IsExactAs state (script_in request) request m w
+
+-- for a whole run
 unfoldable pub RunIsExact : List (List ℕ) → Machine → World → Type 0
 RunIsExact [] m w = Unit {0}
 RunIsExact (state ∷ words) m w = RequestIsExact state (request_of (state ∷ words) None) m w

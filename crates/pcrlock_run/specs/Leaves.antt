@@ -5,10 +5,10 @@ use Rattle.pl_base.specs.FileMap.{FileMap}
 use Rattle.hash_bank.specs.HashedString.{HashedString, NoClash}
 use Rattle.tpm_device.specs.Stored.{Stored}
 use Rattle.pcrlock_words.specs.declared.request.Request.{Request}
-use Rattle.pcrlock_words.specs.declared.request.Request.TheVariants as requests
 use Rattle.pcrlock_line.specs.Machine.{Machine, Tells}
 use Rattle.pcrlock_run.specs.Says.{Says}
 use Rattle.pcrlock_run.specs.Script.{Whole}
+use Rattle.pcrlock_run.specs.Whole.{script_in}
 
 -- none of the listed strings clash
 abbrev pub Safe : List HashedString → Type 0
@@ -24,13 +24,5 @@ pub record Leaves (held : Option FileMap) (stored : Option Stored) (words : Opti
 
 -- the words are no script's
 abbrev pub IsNoScript : Option Request → Type 0
-IsNoScript (Some (requests.Script file policy index)) = ⊥
-IsNoScript (Some (requests.Enroll token policy key literal bank)) = Unit {0}
-IsNoScript (Some (requests.Unseal token policy)) = Unit {0}
-IsNoScript (Some (requests.TpmExtend pcr bytes)) = Unit {0}
-IsNoScript (Some (requests.Cel firmware user)) = Unit {0}
-IsNoScript (Some (requests.ListComponents folders)) = Unit {0}
-IsNoScript (Some (requests.TpmBoot firmware user locality banks)) = Unit {0}
-IsNoScript (Some (requests.Log firmware user folders bank)) = Unit {0}
-IsNoScript (Some (requests.TpmExec commands)) = Unit {0}
 IsNoScript None = Unit {0}
+IsNoScript (Some request) = script_in request ≡ None

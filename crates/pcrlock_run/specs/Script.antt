@@ -13,6 +13,9 @@ use Rattle.pcrlock_line.specs.Outcome.{Outcome, refused_line}
 use Rattle.hash_bank.specs.declared.bank.Bank.{Bank}
 use Rattle.pcrlock_read.specs.Cel.{cel_line}
 use Rattle.pcrlock_read.specs.ComponentLines.{list_components_line}
+use Rattle.pcrlock_predict.specs.Log.{log_line}
+use Rattle.pcrlock_predict.specs.Predict.{predict_line}
+use Rattle.pcrlock_exec.specs.Exec.{tpm_exec_line}
 use Rattle.hash_bank.specs.declared.banks.Banks.{Banks}
 use Rattle.tpm_model.specs.PcrCommands.{is_start_locality}
 use Rattle.pcrlock_tpm.specs.Boot.{tpm_boot_line}
@@ -55,8 +58,9 @@ command_line state (requests.Unseal token policy) m = unseal_outcome state token
 command_line state (requests.Cel firmware user) m = cel_line firmware user m
 command_line state (requests.ListComponents folders) m = list_components_line folders m
 command_line state (requests.TpmBoot firmware user locality banks) m = boot_line state firmware user locality banks m
-command_line state (requests.Log firmware user folders bank) m = refused_line answers.BadWords m
-command_line state (requests.TpmExec commands) m = refused_line answers.BadWords m
+command_line state (requests.Log firmware user folders bank) m = log_line state firmware user folders bank m
+command_line state (requests.Predict firmware user folders location pcr bank joint) m = predict_line state firmware user folders location pcr bank joint m
+command_line state (requests.TpmExec commands) m = tpm_exec_line state commands m
 command_line state (requests.Script file policy index) m = refused_line answers.BadWords m
 
 -- what words do that spell a request, or none

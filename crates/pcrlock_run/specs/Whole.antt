@@ -55,17 +55,23 @@ script_of_content state file policy (Bytes bytes) m = script_of_bytes state file
 abbrev pub run_script : List ℕ → List ℕ → List ℕ → Machine → Whole
 run_script state file policy m = script_of_content state file policy (content_of m.files file script_bytes_limit) m
 
+-- the script that a request runs, and the policy path in force for its lines
+pub record Scripted : Type 0 where
+  pub file : List ℕ
+  pub policy : List ℕ
+
+abbrev pub script_in : Request → Option Scripted
+script_in (requests.Script file policy index) = Some (record { file = file; policy = policy })
+script_in _ = None
+
+-- what a request does that runs this script, or none
+abbrev pub run_as : List ℕ → Option Scripted → Request → Machine → Whole
+run_as state None request m = alone (command_line state request m)
+run_as state (Some script) request m = run_script state script.file script.policy m
+
 -- what a request does
 abbrev pub run_request : List ℕ → Request → Machine → Whole
-run_request state (requests.Script file policy index) m = run_script state file policy m
-run_request state (requests.Enroll token policy key literal bank) m = alone (command_line state (requests.Enroll token policy key literal bank) m)
-run_request state (requests.Unseal token policy) m = alone (command_line state (requests.Unseal token policy) m)
-run_request state (requests.TpmExtend pcr bytes) m = alone (command_line state (requests.TpmExtend pcr bytes) m)
-run_request state (requests.Cel firmware user) m = alone (command_line state (requests.Cel firmware user) m)
-run_request state (requests.ListComponents folders) m = alone (command_line state (requests.ListComponents folders) m)
-run_request state (requests.TpmBoot firmware user locality banks) m = alone (command_line state (requests.TpmBoot firmware user locality banks) m)
-run_request state (requests.Log firmware user folders bank) m = alone (command_line state (requests.Log firmware user folders bank) m)
-run_request state (requests.TpmExec commands) m = alone (command_line state (requests.TpmExec commands) m)
+run_request state request m = run_as state (script_in request) request m
 
 -- what words do that spell a request, or none
 abbrev pub run_spelled : List ℕ → Option Request → Machine → Whole

@@ -14,12 +14,13 @@ use Rattle.pcrlock_line.specs.Content.{Content, content_of}
 use Rattle.hash_bank.specs.declared.banks.Banks.{Banks}
 use Rattle.pcrlock_words.specs.declared.answer.Answer.{Answer}
 use Rattle.pcrlock_input.specs.Logs.{PlainLogs, logs_of}
+use Rattle.pcrlock_exec.specs.Worlds.{tpm_exec_world}
 use Rattle.pcrlock_tpm.specs.Boot.{boot_world}
 use Rattle.pcrlock_tpm.specs.Extend.{extend_world}
 use Rattle.pcrlock_seal.specs.EnrollWorld.{enroll_world}
 use Rattle.pcrlock_run.specs.Lines.{lines_of, line_count}
 use Rattle.pcrlock_run.specs.Script.{line, unseal_outcome, can_boot}
-use Rattle.pcrlock_run.specs.Whole.{script_bytes_limit, script_lines_limit}
+use Rattle.pcrlock_run.specs.Whole.{Scripted, script_in, script_bytes_limit, script_lines_limit}
 
 -- the world after an enrolling under a PCR
 abbrev pub enrolled_world : Option (List ℕ) → Option ℕ → Bank → Machine → World → World
@@ -31,8 +32,8 @@ abbrev pub booted_world : Option ℕ → Banks → Result PlainLogs Answer → M
 booted_world locality banks (Err answer) m w = w
 booted_world locality banks (Ok logs) m w = by_state m.device m w (λ (live : Live) (v : World). boot_world locality banks logs live.state v)
 
--- the world after a command: a boot and an extend are followed, an enrolled object is put in with its binding, and
--- the strings of an unseal are hashed
+-- the world after a command: a boot, an extend and the commands of a file are followed, an enrolled
+-- object is put in with its binding, and the strings of an unseal are hashed
 abbrev pub command_world : List ℕ → Request → Machine → World → World
 command_world state (requests.TpmExtend pcr bytes) m w = if nat_le pcr 23 then by_state m.device m w (λ (live : Live) (v : World). extend_world pcr bytes live.state v) else w
 command_world state (requests.Enroll token policy key literal bank) m w = enrolled_world key literal bank m w
@@ -41,7 +42,8 @@ command_world state (requests.Cel firmware user) m w = w
 command_world state (requests.ListComponents folders) m w = w
 command_world state (requests.TpmBoot firmware user locality banks) m w = if can_boot locality banks then booted_world locality banks (logs_of m.files firmware user) m w else w
 command_world state (requests.Log firmware user folders bank) m w = w
-command_world state (requests.TpmExec commands) m w = w
+command_world state (requests.Predict firmware user folders location pcr bank joint) m w = w
+command_world state (requests.TpmExec commands) m w = tpm_exec_world commands m w
 command_world state (requests.Script file policy index) m w = w
 
 -- the world after words that spell a request, or none
@@ -68,17 +70,14 @@ lines_run content.Missing = []
 lines_run (content.TooLarge size) = []
 lines_run (content.Bytes bytes) = if nat_lt (utf8_valid_len bytes) (length bytes) then [] else text_lines bytes
 
+-- the world after a request that runs this script, or none
+abbrev pub world_as : List ℕ → Option Scripted → Request → Machine → World → World
+world_as state None request m w = command_world state request m w
+world_as state (Some script) request m w = script_world state script.policy (lines_run (content_of m.files script.file script_bytes_limit)) m w
+
 -- the world after a request
 abbrev pub request_world : List ℕ → Request → Machine → World → World
-request_world state (requests.Script file policy index) m w = script_world state policy (lines_run (content_of m.files file script_bytes_limit)) m w
-request_world state (requests.Enroll token policy key literal bank) m w = command_world state (requests.Enroll token policy key literal bank) m w
-request_world state (requests.Unseal token policy) m w = command_world state (requests.Unseal token policy) m w
-request_world state (requests.TpmExtend pcr bytes) m w = command_world state (requests.TpmExtend pcr bytes) m w
-request_world state (requests.Cel firmware user) m w = w
-request_world state (requests.ListComponents folders) m w = w
-request_world state (requests.TpmBoot firmware user locality banks) m w = command_world state (requests.TpmBoot firmware user locality banks) m w
-request_world state (requests.Log firmware user folders bank) m w = command_world state (requests.Log firmware user folders bank) m w
-request_world state (requests.TpmExec commands) m w = command_world state (requests.TpmExec commands) m w
+request_world state request m w = world_as state (script_in request) request m w
 
 abbrev pub spelled_world : List ℕ → Option Request → Machine → World → World
 spelled_world state None m w = w

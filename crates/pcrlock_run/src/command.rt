@@ -1,19 +1,18 @@
 //! The one place that goes by the kind of a request.
 ghost use Rattle.std.specs.Prelude.{◌≡◌, ℕ, Some, Option, List as Sequence, IfOk, IfErr};
-ghost use Rattle.tpm_device.specs.Stored.{Stored};
 ghost use Rattle.pcrlock_line.specs.Machine.{Machine, Tells};
-ghost use Rattle.pcrlock_read.specs.Cel.{cel_line};
-ghost use Rattle.pcrlock_read.specs.ComponentLines.{list_components_line};
+ghost use Rattle.pcrlock_exec.specs.Exec.{tpm_exec_line};
 ghost use Rattle.pcrlock_line.specs.Outcome.{Gives};
 ghost use Rattle.pcrlock_line.specs.Stopped.{StandsAmong};
 ghost use Rattle.pcrlock_line.specs.Causes.{HasCauses};
 ghost use Rattle.pcrlock_run.specs.Script.{boot_line, can_boot, command_line, enroll_outcome, unseal_outcome, line as line_outcome};
 ghost use Rattle.pcrlock_run.specs.Leaves.{Safe};
 
+use crate::printing::{print_cel, print_components, print_log, print_prediction};
 use hash_bank::{Bank, Banks};
+use pcrlock_exec::tpm_exec;
 use pcrlock_line::{Reply, Stop};
 use pcrlock_open::unseal;
-use pcrlock_read::{cel, list_components};
 use pcrlock_seal::enroll;
 use pcrlock_tpm::{tpm_boot, tpm_extend};
 use pcrlock_words::{Answer, Request, WordsError, read_words};
@@ -70,37 +69,6 @@ fn unseal_token<F: Files, T: Tpm>(
     unseal(alloc, files, tpm, state, token)
 }
 
-/// Prints both logs.
-fn print_cel<F: Files>(
-    alloc: Global,
-    files: &mut F,
-    firmware: &Option<Name>,
-    user: &Option<Name>,
-) -> Result<Reply, Stop>
-    ensures causes { HasCauses (F.faults files.old, 0, 0, 0) (F.faults files.new, 0, 0, 0) result }
-    ensures told { (stored : Option Stored) (words : Option (Sequence (Sequence ℕ))) (m : Machine) → Tells (F.held files.old) stored words m
-        → IfOk result (λ reply. Gives (F.held files.new) stored words reply (cel_line firmware.now user.now m)) }
-    ensures stops { (stored : Option Stored) (words : Option (Sequence (Sequence ℕ))) (m : Machine) → Tells (F.held files.old) stored words m
-        → IfErr result (λ _. StandsAmong (F.held files.new) stored (cel_line firmware.now user.now m).stops) }
-{
-    cel(alloc, files, firmware.as_ref(), user.as_ref())
-}
-
-/// Prints the components of the folders.
-fn print_components<F: Files>(
-    alloc: Global,
-    files: &mut F,
-    folders: &List<Name>,
-) -> Result<Reply, Stop>
-    ensures causes { HasCauses (F.faults files.old, 0, 0, 0) (F.faults files.new, 0, 0, 0) result }
-    ensures told { (stored : Option Stored) (words : Option (Sequence (Sequence ℕ))) (m : Machine) → Tells (F.held files.old) stored words m
-        → IfOk result (λ reply. Gives (F.held files.new) stored words reply (list_components_line folders.now m)) }
-    ensures stops { (stored : Option Stored) (words : Option (Sequence (Sequence ℕ))) (m : Machine) → Tells (F.held files.old) stored words m
-        → IfErr result (λ _. StandsAmong (F.held files.new) stored (list_components_line folders.now m).stops) }
-{
-    list_components(alloc, files, folders.as_slice())
-}
-
 /// Whether a TPM can start at the locality, where one is given, with the banks.
 fn can_boot(locality: Option<u8>, banks: Banks) -> bool
     ensures { result ≡ can_boot locality banks }
@@ -143,6 +111,23 @@ fn boot<F: Files, T: Tpm>(
     } else {
         Ok(Reply::Refused(Answer::BadWords))
     }
+}
+
+/// Gives the TPM the commands of a file.
+fn execute<F: Files, T: Tpm>(
+    alloc: Global,
+    state: &Name,
+    files: &mut F,
+    tpm: &mut T,
+    commands: &Name,
+) -> Result<Reply, Stop>
+    ensures causes { HasCauses (F.faults files.old, 0, T.faults tpm.old, 0) (F.faults files.new, 0, T.faults tpm.new, 0) result }
+    ensures told { (words : Option (Sequence (Sequence ℕ))) (m : Machine) → Tells (F.held files.old) (T.stored tpm.old) words m
+        → IfOk result (λ reply. Gives (F.held files.new) (T.stored tpm.new) words reply (tpm_exec_line state.now commands.now m)) }
+    ensures stops { (words : Option (Sequence (Sequence ℕ))) (m : Machine) → Tells (F.held files.old) (T.stored tpm.old) words m
+        → IfErr result (λ _. StandsAmong (F.held files.new) (T.stored tpm.new) (tpm_exec_line state.now commands.now m).stops) }
+{
+    tpm_exec(alloc, files, tpm, state, commands)
 }
 
 /// Runs the command of a request, where the TPM's state stands at the path. A script is no command of a
@@ -201,9 +186,44 @@ pub fn command<F: Files, T: Tpm, E: Entropy>(
             *locality,
             *banks,
         ),
-        Request::Log { .. } | Request::TpmExec { .. } | Request::Script { .. } => Ok(Reply::Refused(
-            Answer::BadWords,
-        )),
+        Request::Log {
+            firmware_log,
+            userspace_log,
+            components,
+            bank,
+        } => print_log(
+            alloc,
+            state,
+            files,
+            tpm,
+            firmware_log,
+            userspace_log,
+            components,
+            *bank,
+        ),
+        Request::Predict {
+            firmware_log,
+            userspace_log,
+            components,
+            location,
+            pcr,
+            bank,
+            joint,
+        } => print_prediction(
+            alloc,
+            state,
+            files,
+            tpm,
+            firmware_log,
+            userspace_log,
+            components,
+            location,
+            *pcr,
+            *bank,
+            *joint,
+        ),
+        Request::TpmExec { commands } => execute(alloc, state, files, tpm, commands),
+        Request::Script { .. } => Ok(Reply::Refused(Answer::BadWords)),
     }
 }
 

@@ -5,6 +5,7 @@
 
 mod command;
 mod next;
+mod printing;
 mod script;
 mod show;
 mod status;

@@ -42,7 +42,8 @@ impl Status {
             | Answer::NoObject(_)
             | Answer::WrongBinding { .. }
             | Answer::SessionsFull
-            | Answer::BankAbsent(_) => Status::Other,
+            | Answer::BankAbsent(_)
+            | Answer::NoDigest { .. } => Status::Other,
         }
     }
 

@@ -246,6 +246,7 @@ fn run_request<F: Files, T: Tpm, E: Entropy, O: Sink, R: Sink>(
         }
         Request::Cel { .. }
         | Request::ListComponents { .. }
+        | Request::Predict { .. }
         | Request::Enroll { .. }
         | Request::Unseal { .. }
         | Request::TpmBoot { .. }

@@ -4,4 +4,6 @@ pub mod Numbers
 pub mod ParserWords
 pub mod ParserReads
 pub mod ParserSet
+pub mod WindowLemmas
 pub mod Lists
+pub mod Ranges

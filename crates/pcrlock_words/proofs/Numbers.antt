@@ -107,3 +107,15 @@ number-above limit number value r parsed found plain above =
     let text = is_text number value r parsed found plain in
     let over = lt-leb (digits_value 10 value) limit (subst (λ n. limit < n) text.0 above) in
     rw over
+
+-- what a test lets through
+let_through : (test : Bool) (n m : ℕ) → Some m ≡ cond test (Some n) None → (test ≡ true) × (m ≡ n)
+let_through true n m e = (refl, cc)
+let_through false n m e = cc
+
+-- a number that is read is within the limit
+pub number-in_range : (limit n : ℕ) (value : List ℕ) → Some n ≡ number_up_to limit value → n ≤ limit
+number-in_range limit n value read =
+    let found = digits_value 10 value in
+    let parts = let_through (nat_le found limit && bytes_eq value (decimal found)) found n read in
+    omega (arith, leb-true found limit (and_parts (nat_le found limit) (bytes_eq value (decimal found)) parts.0).0, parts.1)

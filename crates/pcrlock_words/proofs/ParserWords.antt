@@ -15,6 +15,7 @@ Text = List ℕ
 -- a word that is no option
 pub record Plain (word : Text) : Type 0 where
   pub dash : is_dashed word ≡ false
+  pub bare : undashed word ≡ None
   pub mark : bytes_eq word (45 ∷ 45 ∷ []) ≡ false
   pub long : long_of word ≡ None
   pub short : short_of word ≡ None
@@ -31,6 +32,7 @@ pub record Attached (word name value : Text) : Type 0 where
 -- a word that is an option with the word behind it
 pub record Waits (word name : Text) : Type 0 where
   pub dash : is_dashed word ≡ true
+  pub bare : undashed word ≡ Some name
   pub mark : bytes_eq word (45 ∷ 45 ∷ []) ≡ false
   pub long : long_of word ≡ Some (name, None)
   pub alone : joined word ≡ None
@@ -69,6 +71,7 @@ option_look word text dash mark long bare =
       | false ↦ λ has.
           waits text (record {
             dash = dash;
+            bare = bare;
             mark = mark;
             long = long ∙ ap (λ b. Some (before_first is_equals text, cond b (Some (after_first is_equals text)) None)) has
                 ∙ ap (λ t. Some (t, None)) (before_none text has);
@@ -82,6 +85,7 @@ plain_look : (word : Text) → is_dashed word ≡ false → bytes_eq word (45 �
 plain_look word dash mark long short bare =
     plain (record {
       dash = dash;
+      bare = bare;
       mark = mark;
       long = long;
       short = short;

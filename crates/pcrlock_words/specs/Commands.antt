@@ -3,11 +3,11 @@ use Rattle.std.specs.Prelude.{ℕ, Bool, true, false, ◌||◌, ◌&&◌, not, L
 use Rattle.std.specs.Str.{bytes_eq}
 use Rattle.pcrlock_words.specs.Options.{Entry, Given, given, accepted}
 use Rattle.pcrlock_words.specs.declared.command.Command.{Command}
-use Rattle.pcrlock_words.specs.declared.command.Command.TheVariants.{Script, Log, Cel, ListComponents, Enroll, Unseal, TpmBoot, TpmExtend, TpmExec}
+use Rattle.pcrlock_words.specs.declared.command.Command.TheVariants.{Script, Log, Cel, ListComponents, Predict, Enroll, Unseal, TpmBoot, TpmExtend, TpmExec}
 
 -- the commands
 abbrev pub commands : List Command
-commands = Script ∷ Log ∷ Cel ∷ ListComponents ∷ Enroll ∷ Unseal ∷ TpmBoot ∷ TpmExtend ∷ TpmExec ∷ []
+commands = Script ∷ Log ∷ Cel ∷ ListComponents ∷ Predict ∷ Enroll ∷ Unseal ∷ TpmBoot ∷ TpmExtend ∷ TpmExec ∷ []
 
 -- the word that names a command
 abbrev pub name_of : Command → List ℕ
@@ -15,6 +15,7 @@ name_of Script = codes "script"
 name_of Log = codes "log"
 name_of Cel = codes "cel"
 name_of ListComponents = codes "list-components"
+name_of Predict = codes "predict"
 name_of Enroll = codes "enroll"
 name_of Unseal = codes "unseal"
 name_of TpmBoot = codes "tpm-boot"
@@ -34,12 +35,15 @@ is_named within name command = may_stand within command && bytes_eq (name_of com
 abbrev pub command_named : Bool → List ℕ → Option Command
 command_named within name = find (is_named within name) commands
 
--- an option that has to be given, and one that may be left out
+-- an option that has to be given, one that may be left out, and a flag
 abbrev pub needed : List ℕ → Entry
-needed name = record { name = name; is_needed = true }
+needed name = record { name = name; is_needed = true; is_flag = false }
 
 abbrev pub free : List ℕ → Entry
-free name = record { name = name; is_needed = false }
+free name = record { name = name; is_needed = false; is_flag = false }
+
+abbrev pub flag : List ℕ → Entry
+flag name = record { name = name; is_needed = false; is_flag = true }
 
 -- the table of each command's options
 abbrev pub table : Command → List Entry
@@ -48,6 +52,9 @@ table Log =
     free (codes "firmware-log") ∷ free (codes "userspace-log") ∷ free (codes "components") ∷ free (codes "bank") ∷ []
 table Cel = free (codes "firmware-log") ∷ free (codes "userspace-log") ∷ []
 table ListComponents = free (codes "components") ∷ []
+table Predict =
+    free (codes "firmware-log") ∷ free (codes "userspace-log") ∷ free (codes "components") ∷ free (codes "location")
+    ∷ free (codes "pcr") ∷ free (codes "bank") ∷ flag (codes "joint") ∷ []
 table Enroll =
     needed (codes "token") ∷ free (codes "policy") ∷ free (codes "key") ∷ free (codes "literal") ∷ free (codes "bank") ∷ []
 table Unseal = needed (codes "token") ∷ free (codes "policy") ∷ []
@@ -70,4 +77,6 @@ options_of within command = filter (stands within) (table command)
 
 -- the options that words give, where a command takes them
 abbrev pub options_for : Bool → Command → List (List ℕ) → Option (List Given)
-options_for within command words = accepted (options_of within command) (given words)
+options_for within command words =
+    let entries = options_of within command in
+    accepted entries (given entries words)

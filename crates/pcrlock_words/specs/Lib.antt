@@ -1,7 +1,10 @@
 pub mod Texts
+pub mod LogText
+pub mod PredictText
 pub mod Lines
 pub mod Options
 pub mod Values
+pub mod Windows
 pub mod Readings
 pub mod Commands
 pub mod Parser

@@ -1,13 +1,14 @@
 -- Which lists of words the program takes, and the request that each of them spells.
-use Rattle.std.specs.Prelude.{ℕ, ◌==◌, if◌then◌else◌, List, [], ◌∷◌, length, codes, Option, Some, None, is_some}
+use Rattle.std.specs.Prelude.{ℕ, ◌==◌, if◌then◌else◌, List, [], ◌∷◌, length, fold, codes, Option, Some, None, is_some}
 use Rattle.std.specs.Str.{bytes_eq}
 use Rattle.hash_bank.specs.declared.bank.Bank.TheVariants.{Sha256}
 use Rattle.pcrlock_words.specs.declared.command.Command.{Command}
 use Rattle.pcrlock_words.specs.declared.command.Command.TheVariants as commands
 use Rattle.pcrlock_words.specs.declared.request.Request.{Request}
 use Rattle.pcrlock_words.specs.declared.request.Request.TheVariants as requests
-use Rattle.pcrlock_words.specs.Options.{Given, value_of}
-use Rattle.pcrlock_words.specs.Values.{◌>>=◌, required, optional, defaulted, path_of, pcr_of, bank_of, key_of, hex_of, index_of, all_banks, banks_of, folders_of, locality_of}
+use Rattle.pcrlock_words.specs.Options.{Given, is_given, value_of}
+use Rattle.pcrlock_words.specs.Values.{◌>>=◌, required, optional, defaulted, path_of, pcr_of, pcrs_of, with_pcr, bank_of, key_of, hex_of, index_of, all_banks, banks_of, folders_of, locality_of}
+use Rattle.pcrlock_words.specs.Windows.{location_in_force}
 use Rattle.pcrlock_words.specs.Commands.{command_named, options_for}
 
 -- the policy path in force: the script's inside a script, else that of --policy or its default
@@ -33,6 +34,10 @@ abbrev pub default_folders : List (List ℕ)
 default_folders =
     codes "/etc/pcrlock.d" ∷ codes "/run/pcrlock.d" ∷ codes "/var/lib/pcrlock.d" ∷ codes "/usr/local/lib/pcrlock.d"
     ∷ codes "/usr/lib/pcrlock.d" ∷ []
+
+-- the PCRs where no option gives them, 0 to 5, 7, and 11 to 15 (systemd-pcrlock(8))
+abbrev pub default_pcrs : ℕ
+default_pcrs = fold with_pcr 0 (0 ∷ 1 ∷ 2 ∷ 3 ∷ 4 ∷ 5 ∷ 7 ∷ 11 ∷ 12 ∷ 13 ∷ 14 ∷ 15 ∷ [])
 
 -- the request of each command with these options
 abbrev pub script_request : List Given → Option Request
@@ -60,6 +65,16 @@ abbrev pub list_components_request : List Given → Option Request
 list_components_request options = do
   components ← defaulted folders_of default_folders (value_of (codes "components") options)
   Some (requests.ListComponents components)
+
+abbrev pub predict_request : List Given → Option Request
+predict_request options = do
+  firmware_log ← optional path_of (value_of (codes "firmware-log") options)
+  userspace_log ← optional path_of (value_of (codes "userspace-log") options)
+  components ← defaulted folders_of default_folders (value_of (codes "components") options)
+  location ← location_in_force (value_of (codes "location") options)
+  pcr ← defaulted pcrs_of default_pcrs (value_of (codes "pcr") options)
+  bank ← defaulted bank_of Sha256 (value_of (codes "bank") options)
+  Some (requests.Predict firmware_log userspace_log components location pcr bank (is_given (codes "joint") options))
 
 abbrev pub enroll_request : Option (List ℕ) → List Given → Option Request
 enroll_request script_policy options = do
@@ -100,6 +115,7 @@ command_request script_policy commands.Script options = script_request options
 command_request script_policy commands.Log options = log_request options
 command_request script_policy commands.Cel options = cel_request options
 command_request script_policy commands.ListComponents options = list_components_request options
+command_request script_policy commands.Predict options = predict_request options
 command_request script_policy commands.Enroll options = enroll_request script_policy options
 command_request script_policy commands.Unseal options = unseal_request script_policy options
 command_request script_policy commands.TpmBoot options = tpm_boot_request options

@@ -9,7 +9,7 @@ use Rattle.component_tree.specs.PlainTree.{PlainComponent, PlainVariant}
 use Rattle.pcrlock_words.specs.declared.place.Place.{Place}
 use Rattle.pcrlock_words.specs.declared.place.Place.TheVariants.{At, Json, Records, BadName, Rule}
 use Rattle.pcrlock_words.specs.declared.answer.Answer.{Answer}
-use Rattle.pcrlock_words.specs.declared.answer.Answer.TheVariants.{NotLiteral, BadWords, Malformed, NoSuchFile, Limit, CounterEnd, ReadFault, WriteFault, EntropyFault, TpmFault, Memory, NoToken, NoObject, WrongBinding, SessionsFull, BankAbsent}
+use Rattle.pcrlock_words.specs.declared.answer.Answer.TheVariants.{NotLiteral, BadWords, Malformed, NoSuchFile, Limit, CounterEnd, ReadFault, WriteFault, EntropyFault, TpmFault, Memory, NoToken, NoObject, WrongBinding, SessionsFull, BankAbsent, NoDigest}
 
 -- the line feed at the end of each line
 abbrev pub line_end : List ℕ
@@ -79,3 +79,4 @@ answer_text (NoObject handle) = codes "no object: " ++ handle_text handle ++ lin
 answer_text (WrongBinding session object) = codes "wrong binding: session " ++ encode_lower session ++ codes ", object " ++ encode_lower object ++ line_end
 answer_text SessionsFull = codes "sessions full: 64" ++ line_end
 answer_text (BankAbsent bank) = codes "bank absent: " ++ name_in bank ++ line_end
+answer_text (NoDigest component variant place) = codes "no digest: " ++ component ++ codes " " ++ variant ++ codes " " ++ decimal place ++ line_end

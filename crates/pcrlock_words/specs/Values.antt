@@ -1,5 +1,5 @@
 -- How the values of options are read.
-use Rattle.std.specs.Prelude.{ℕ, Bool, true, false, ◌==◌, ◌&&◌, ◌||◌, not, nat_le, slice_index, if◌then◌else◌, List, [], ◌∷◌, length, find, Option, Some, None, option_map}
+use Rattle.std.specs.Prelude.{ℕ, Bool, true, false, ◌==◌, ◌&&◌, ◌||◌, not, bit_or, ◌^◌, nat_le, slice_index, if◌then◌else◌, List, [], ◌∷◌, length, find, Option, Some, None, option_map}
 use Rattle.std.specs.List.{list_any, slice_split}
 use Rattle.std.specs.Result.{result_ok}
 use Rattle.std.specs.Str.{bytes_eq}
@@ -12,6 +12,7 @@ use Rattle.hash_bank.specs.declared.bank.Bank.TheVariants.{Sha1, Sha256, Sha384,
 use Rattle.hash_bank.specs.declared.banks.Banks.{Banks}
 use Rattle.hash_bank.specs.Banks.{has_bank}
 use Rattle.hash_bank.specs.Hash.{name_in}
+use Rattle.policy_digest.specs.Mask.{has_pcr}
 
 -- the second reading, of what the first gives
 infixl 10 ◌>>=◌
@@ -52,6 +53,17 @@ number_up_to limit value =
 abbrev pub pcr_of : List ℕ → Option ℕ
 pcr_of value = number_up_to 23 value
 
+-- the mask with one more PCR
+abbrev pub with_pcr : ℕ → ℕ → ℕ
+with_pcr mask pcr = bit_or mask (2 ^ pcr)
+
+-- the mask with those of further numbers, none of which is there yet
+abbrev pub with_pcrs : ℕ → List (List ℕ) → Option ℕ
+with_pcrs mask [] = Some mask
+with_pcrs mask (number ∷ numbers) = do
+  pcr ← pcr_of number
+  if has_pcr mask pcr then None else with_pcrs (with_pcr mask pcr) numbers
+
 -- the bank of this name
 abbrev pub bank_of : List ℕ → Option Bank
 bank_of value = find (λ bank. bytes_eq (name_in bank) value) (Sha1 ∷ Sha256 ∷ Sha384 ∷ Sha512 ∷ [])
@@ -59,6 +71,10 @@ bank_of value = find (λ bank. bytes_eq (name_in bank) value) (Sha1 ∷ Sha256 �
 -- the parts of a list, which commas part
 abbrev pub parts_of : List ℕ → List (List ℕ)
 parts_of value = slice_split (λ byte. byte == 44) value
+
+-- the mask of the PCRs of these numbers, none of them twice
+abbrev pub pcrs_of : List ℕ → Option ℕ
+pcrs_of value = with_pcrs 0 (parts_of value)
 
 -- at most 16 folders, each a path
 abbrev pub folders_of : List ℕ → Option (List (List ℕ))

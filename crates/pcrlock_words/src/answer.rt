@@ -53,4 +53,11 @@ pub enum Answer {
     SessionsFull,
     /// The TPM has no such bank of PCRs.
     BankAbsent(Bank),
+    /// A record of the components has no digest of the asked bank: that at `place`, counted from 0, among
+    /// the records of the component's variant.
+    NoDigest {
+        component: Name,
+        variant: Name,
+        place: u32,
+    },
 }

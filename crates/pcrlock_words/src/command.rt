@@ -3,8 +3,8 @@ ghost use Rattle.clap.specs.Words.{app_of, rule_of};
 ghost use Rattle.pcrlock_words.specs.Parser.{entry_of, parser_for, rule_for};
 ghost use Rattle.pcrlock_words.specs.Commands.{command_named, is_named, may_stand, name_of, options_of, stands, table};
 
-use Entry::{Free, Needed};
-use clap::Arg;
+use Entry::{Flag, Free, Needed};
+use clap::{Arg, ArgAction};
 use std::alloc::{AllocError, Global};
 
 /// A command of the program, without its options.
@@ -14,6 +14,7 @@ pub(crate) enum Command {
     Log,
     Cel,
     ListComponents,
+    Predict,
     Enroll,
     Unseal,
     TpmBoot,
@@ -21,11 +22,13 @@ pub(crate) enum Command {
     TpmExec,
 }
 
-// The name of an option, which has to be given or may be left out. Each option has a value.
+// The name of an option, which has to be given or may be left out, or of a flag. Each option has a value,
+// and no flag has one.
 #[derive(Clone, Copy)]
 enum Entry {
     Needed(&'static str),
     Free(&'static str),
+    Flag(&'static str),
 }
 
 static SCRIPT: [Entry; 3] = [Needed("file"), Free("policy"), Free("index")];
@@ -40,6 +43,16 @@ static LOG: [Entry; 4] = [
 static CEL: [Entry; 2] = [Free("firmware-log"), Free("userspace-log")];
 
 static LIST_COMPONENTS: [Entry; 1] = [Free("components")];
+
+static PREDICT: [Entry; 7] = [
+    Free("firmware-log"),
+    Free("userspace-log"),
+    Free("components"),
+    Free("location"),
+    Free("pcr"),
+    Free("bank"),
+    Flag("joint"),
+];
 
 static ENROLL: [Entry; 5] = [
     Needed("token"),
@@ -69,7 +82,7 @@ impl Entry {
         ensures { result ≡ stands within (entry_of self) }
     {
         let name = match self {
-            Needed(name) | Free(name) => name,
+            Needed(name) | Free(name) | Flag(name) => name,
         };
         !within || (name != "policy" && name != "index")
     }
@@ -82,17 +95,19 @@ impl Entry {
         match self {
             Needed(name) => Arg::new(alloc, name).long(name).required(true),
             Free(name) => Arg::new(alloc, name).long(name),
+            Flag(name) => Arg::new(alloc, name).long(name).action(ArgAction::SetTrue),
         }
     }
 }
 
 impl Command {
     // Every command.
-    const ALL: [Command; 9] = [
+    const ALL: [Command; 10] = [
         Command::Script,
         Command::Log,
         Command::Cel,
         Command::ListComponents,
+        Command::Predict,
         Command::Enroll,
         Command::Unseal,
         Command::TpmBoot,
@@ -109,6 +124,7 @@ impl Command {
             Command::Log => "log",
             Command::Cel => "cel",
             Command::ListComponents => "list-components",
+            Command::Predict => "predict",
             Command::Enroll => "enroll",
             Command::Unseal => "unseal",
             Command::TpmBoot => "tpm-boot",
@@ -151,6 +167,7 @@ impl Command {
             Command::Log => LOG.as_slice(),
             Command::Cel => CEL.as_slice(),
             Command::ListComponents => LIST_COMPONENTS.as_slice(),
+            Command::Predict => PREDICT.as_slice(),
             Command::Enroll => ENROLL.as_slice(),
             Command::Unseal => UNSEAL.as_slice(),
             Command::TpmBoot => TPM_BOOT.as_slice(),

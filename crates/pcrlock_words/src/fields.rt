@@ -3,17 +3,19 @@
 ghost use Rattle.std.specs.Prelude.{option_copied};
 ghost use Rattle.hash_bank.specs.declared.bank.Bank.TheVariants.{Sha256};
 ghost use Rattle.pcrlock_words.specs.Readings.{Gives};
-ghost use Rattle.pcrlock_words.specs.Requests.{default_folders, extended_bytes, policy_in_force, token_beside};
-ghost use Rattle.pcrlock_words.specs.Values.{all_banks, bank_of, banks_of, defaulted, folders_of, index_of, key_of, locality_of, optional, path_of, pcr_of, required};
+ghost use Rattle.pcrlock_words.specs.Requests.{default_folders, default_pcrs, extended_bytes, policy_in_force, token_beside};
+ghost use Rattle.pcrlock_words.specs.Values.{all_banks, bank_of, banks_of, defaulted, folders_of, index_of, key_of, locality_of, optional, path_of, pcr_of, pcrs_of, required};
+ghost use Rattle.pcrlock_words.specs.Windows.{location_in_force};
 
 use crate::error::WordsError;
 use crate::options::Options;
 use crate::values::{
     names, read_bank, read_banks, read_folders, read_hex, read_index, read_key, read_locality,
-    read_path, read_pcr,
+    read_location, read_path, read_pcr, read_pcrs,
 };
 use hash_bank::{Bank, Banks};
 use pl_base::{List, Name, Small};
+use predictor::Window;
 use std::alloc::Global;
 
 // The policy file's path where no option gives it.
@@ -21,6 +23,12 @@ const DEFAULT_POLICY: &str = "pcrlock.policy";
 
 // The NV index where no option gives it.
 const DEFAULT_INDEX: u32 = 0x0180_0100;
+
+// The window where no option gives it.
+const DEFAULT_LOCATION: &str = "760-:940-";
+
+// The mask of the PCRs where no option gives them: 0 to 5, 7, and 11 to 15.
+const DEFAULT_PCRS: u32 = 0xf8bf;
 
 // The banks where no option gives them.
 const ALL_BANKS: Banks = Banks {
@@ -173,5 +181,25 @@ pub(crate) fn banks_value(alloc: Global, value: Option<&str>) -> Result<Banks, W
     match value {
         Some(value) => read_banks(alloc, value),
         None => Ok(ALL_BANKS),
+    }
+}
+
+/// The window, or its default.
+pub(crate) fn location_value(alloc: Global, value: Option<&str>) -> Result<Window, WordsError>
+    ensures { Gives result (location_in_force (option_copied value.entry)) }
+{
+    match value {
+        Some(value) => read_location(alloc, value),
+        None => read_location(alloc, DEFAULT_LOCATION),
+    }
+}
+
+/// The mask of the PCRs, or its default.
+pub(crate) fn pcrs_value(alloc: Global, value: Option<&str>) -> Result<u32, WordsError>
+    ensures { Gives result (defaulted pcrs_of default_pcrs (option_copied value.entry)) }
+{
+    match value {
+        Some(value) => read_pcrs(alloc, value),
+        None => Ok(DEFAULT_PCRS),
     }
 }

@@ -1,13 +1,14 @@
 ghost use Rattle.std.specs.Prelude.{◌≡◌, IfOk, map, option_copied};
 ghost use Rattle.std.specs.List.{list_any};
 ghost use Rattle.pcrlock_words.specs.Commands.{options_for};
-ghost use Rattle.pcrlock_words.specs.Options.{is_dashed, undashed, value_of};
-ghost use Rattle.pcrlock_words.specs.Parser.{is_stray};
+ghost use Rattle.pcrlock_words.specs.Options.{is_dashed, is_given, undashed, value_of};
+ghost use Rattle.pcrlock_words.specs.Parser.{is_of_words, is_stray};
 ghost use Rattle.pcrlock_words.specs.Readings.{Gives};
 
 use crate::command::Command;
 use crate::error::WordsError;
 use clap::ArgMatches;
+use clap::parser::ValueSource;
 use pl_base::{Memory, Name};
 use std::alloc::Global;
 use std::marker::Model;
@@ -50,11 +51,33 @@ impl<'a> Options<'a> {
         Ok(Options { matches })
     }
 
+    /// Whether the option or the flag of this name is given.
+    pub(crate) fn has(&self, name: &str) -> bool
+        ensures { result ≡ is_given name.now self.now }
+    {
+        is_of_words(self.matches.value_source(name))
+    }
+
     /// The value of the option of this name.
     pub(crate) fn value(&self, name: &str) -> Option<&'a str>
         ensures { option_copied result ≡ value_of name.now self.now }
     {
-        self.matches.get_str(name)
+        if self.has(name) {
+            self.matches.get_str(name)
+        } else {
+            None
+        }
+    }
+}
+
+// Whether a value comes from the words, and not from a default.
+fn is_of_words(source: Option<ValueSource>) -> bool
+    ensures { result ≡ is_of_words source }
+{
+    match source {
+        Some(ValueSource::CommandLine) => true,
+        Some(ValueSource::DefaultValue) => false,
+        None => false,
     }
 }
 

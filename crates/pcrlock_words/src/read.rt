@@ -1,12 +1,12 @@
 ghost use Rattle.std.specs.Prelude.{option_copied};
 ghost use Rattle.pcrlock_words.specs.Readings.{Gives};
-ghost use Rattle.pcrlock_words.specs.Requests.{cel_request, command_request, enroll_request, line_request, list_components_request, log_request, options_request, request_of, script_request, tpm_boot_request, tpm_exec_request, tpm_extend_request, unseal_request};
+ghost use Rattle.pcrlock_words.specs.Requests.{cel_request, command_request, enroll_request, line_request, list_components_request, log_request, options_request, predict_request, request_of, script_request, tpm_boot_request, tpm_exec_request, tpm_extend_request, unseal_request};
 
 use crate::command::Command;
 use crate::error::WordsError;
 use crate::fields::{
     bank_value, banks_value, extended, folders, index_value, key_value, locality_value,
-    optional_path, pcr_value, policy_path, required_path, token_path,
+    location_value, optional_path, pcr_value, pcrs_value, policy_path, required_path, token_path,
 };
 use crate::options::{Options, texts};
 use crate::request::Request;
@@ -18,7 +18,8 @@ use std::alloc::Global;
 /// Outside a script, where `script_policy` is `None`, the first word is the path of the state file, of
 /// at least one byte. A command's name follows, and then the command's options, each at most once and
 /// in any order, as `--name value` or `--name=value`. Inside a script the words begin with the
-/// command's name, and `script_policy` is the path of the script's policy file, which then holds.
+/// command's name, and `script_policy` is the path of the script's policy file, which then holds. The
+/// flag `--joint` has no value.
 ///
 /// | Command | Options |
 /// |---|---|
@@ -26,6 +27,7 @@ use std::alloc::Global;
 /// | `log` | at will `--firmware-log`, `--userspace-log`, `--components`, `--bank` |
 /// | `cel` | at will `--firmware-log`, `--userspace-log` |
 /// | `list-components` | at will `--components` |
+/// | `predict` | those of `log`, and at will `--location`, `--pcr`, `--joint` |
 /// | `enroll` | `--token`, `--literal`, and at will `--policy`, `--key`, `--bank` |
 /// | `unseal` | `--token`, and at will `--policy` |
 /// | `tpm-boot` | at will `--firmware-log`, `--userspace-log`, `--locality`, `--banks` |
@@ -97,6 +99,7 @@ fn read_command(
         Command::Log => log(alloc, options),
         Command::Cel => cel(alloc, options),
         Command::ListComponents => list_components(alloc, options),
+        Command::Predict => predict(alloc, options),
         Command::Enroll => enroll(alloc, options, script_policy),
         Command::Unseal => unseal(alloc, options, script_policy),
         Command::TpmBoot => tpm_boot(alloc, options),
@@ -153,6 +156,28 @@ fn list_components(alloc: Global, options: &Options<'_>) -> Result<Request, Word
 {
     let components = folders(alloc, options.value("components"))?;
     Ok(Request::ListComponents { components })
+}
+
+// The request of `predict` with these options.
+fn predict(alloc: Global, options: &Options<'_>) -> Result<Request, WordsError>
+    ensures { Gives result (predict_request options.now) }
+{
+    let firmware_log = optional_path(alloc, options.value("firmware-log"))?;
+    let userspace_log = optional_path(alloc, options.value("userspace-log"))?;
+    let components = folders(alloc, options.value("components"))?;
+    let location = location_value(alloc, options.value("location"))?;
+    let pcr = pcrs_value(alloc, options.value("pcr"))?;
+    let bank = bank_value(options.value("bank"))?;
+    let joint = options.has("joint");
+    Ok(Request::Predict {
+        firmware_log,
+        userspace_log,
+        components,
+        location,
+        pcr,
+        bank,
+        joint,
+    })
 }
 
 // The request of `enroll` with these options.

@@ -1,5 +1,6 @@
 use hash_bank::{Bank, Banks};
 use pl_base::{List, Name, Small};
+use predictor::Window;
 
 /// What a list of words asks for. Each field holds the value of the option of its name, or the option's
 /// default where the words don't give it; it is `None` where an option without a default isn't given.
@@ -32,6 +33,18 @@ pub enum Request {
     /// Lists the components of the folders `components`, 1 to 16, the first on top.
     ListComponents {
         components: List<Name>,
+    },
+    /// Prints the values that the PCRs of the mask `pcr`, whose bit i stands for PCR i, may have in `bank`
+    /// while a boot stands in the window `location`, or why no policy can protect the PCR. With `joint`
+    /// it prints the values that the PCRs have together. The logs and the components are those of `log`.
+    Predict {
+        firmware_log: Option<Name>,
+        userspace_log: Option<Name>,
+        components: List<Name>,
+        location: Window,
+        pcr: u32,
+        bank: Bank,
+        joint: bool,
     },
     /// Seals `key`, 1 to 128 bytes, or a key that is drawn, and writes the token file `token`. With
     /// `literal` the object opens at the present value of that PCR, 0 to 23, in `bank`.

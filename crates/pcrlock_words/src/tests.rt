@@ -1,11 +1,14 @@
 //! What no clause says: printed texts and spelled requests, each public call with ample memory.
 use crate::{
     Answer, Place, Request, WordsError, answer_line, components_text, enrolled_line, key_line,
-    read_words, records_line, split_line, status_line,
+    log_text, predict_text, read_words, records_line, split_line, status_line,
 };
-use component_tree::load_tree;
-use hash_bank::{Bank, Digest};
+use component_tree::{Tree, load_tree};
+use hash_bank::{Bank, Digest, Digests};
+use pcr_replay::{LogRecord, Origin};
 use pl_base::{List, MemFiles, Memory, Name, Small};
+use policy_digest::{Row, Table, Values};
+use predictor::{Cause, LeftOut, Protection};
 use std::alloc::Global;
 use std::process::Abort;
 use std::str;
@@ -25,7 +28,7 @@ const LINES: [(&str, &str); 9] = [
 ];
 
 // Words outside a script, parted by bars, and the request that they spell.
-const SPELLED: [(&str, &str); 36] = [
+const SPELLED: [(&str, &str); 40] = [
     ("state|script|--file|f", "script f pcrlock.policy 01800100"),
     (
         "state|script|--index=01FFffff|--policy|p|--file|f",
@@ -39,6 +42,22 @@ const SPELLED: [(&str, &str); 36] = [
     (
         "state|log|--bank=sha384|--userspace-log|u|--firmware-log|f|--components=c",
         "log f u c Sha384",
+    ),
+    (
+        "state|predict",
+        "predict ? ? /etc/pcrlock.d /run/pcrlock.d /var/lib/pcrlock.d /usr/local/lib/pcrlock.d /usr/lib/pcrlock.d 760- 940- 0000f8bf Sha256 false",
+    ),
+    (
+        "state|predict|--joint|--pcr|23,0|--location|a:b|--components|c,d",
+        "predict ? ? c d a b 00800001 Sha256 true",
+    ),
+    (
+        "state|predict|--components=c|--pcr=4|--bank|sha1|--location=650-x|--firmware-log|f|--userspace-log=u|--joint",
+        "predict f u c 650-x 650-x 00000010 Sha1 true",
+    ),
+    (
+        "state|predict|--pcr=0,1,2,3,4,5,6,7,8,9,10,11,12,13,14,15,16,17,18,19,20,21,22,23|--components|c",
+        "predict ? ? c 760- 940- 00ffffff Sha256 false",
     ),
     ("state|tpm-exec|--commands|c d", "tpm-exec c d"),
     (
@@ -128,7 +147,7 @@ const SPELLED: [(&str, &str); 36] = [
 ];
 
 // Words that are outside the set, outside a script.
-const REFUSED: [&str; 107] = [
+const REFUSED: [&str; 145] = [
     "",
     "state",
     "state|",
@@ -151,6 +170,44 @@ const REFUSED: [&str; 107] = [
     "state|log|--banks|sha256",
     "state|log|--bank|sha256,sha384",
     "state|log|--joint",
+    "state|predict|--joint=",
+    "state|predict|--joint=true",
+    "state|predict|--joint=x",
+    "state|predict|--joint|",
+    "state|predict|--joint|x",
+    "state|predict|--joint|true",
+    "state|predict|--joint|--joint",
+    "state|predict|--joint|--joint=true",
+    "state|predict|--joint|-",
+    "state|predict|--join",
+    "state|predict|-joint",
+    "state|predict|joint",
+    "state|predict|--force",
+    "state|predict|--policy|p",
+    "state|predict|--banks|sha256",
+    "state|predict|--pcr|--joint",
+    "state|predict|--pcr",
+    "state|predict|--pcr|",
+    "state|predict|--pcr|24",
+    "state|predict|--pcr|3,3",
+    "state|predict|--pcr|0,1,0",
+    "state|predict|--pcr|1,",
+    "state|predict|--pcr|,1",
+    "state|predict|--pcr|1,,2",
+    "state|predict|--pcr|+1",
+    "state|predict|--pcr|01",
+    "state|predict|--pcr|1-3",
+    "state|predict|--pcr|1, 2",
+    "state|predict|--pcr|0|--pcr|1",
+    "state|predict|--location|",
+    "state|predict|--location|:",
+    "state|predict|--location|:940-",
+    "state|predict|--location|760-:",
+    "state|predict|--location|b:a",
+    "state|predict|--location|a:b:c",
+    "state|predict|--location|a|--location|b",
+    "state|unseal|--token|t|--joint",
+    "state|unseal|--joint|--token|t",
     "state|tpm-exec",
     "state|tpm-exec|--commands",
     "state|tpm-exec|--commands=",
@@ -240,7 +297,7 @@ const REFUSED: [&str; 107] = [
 
 // The same of words inside a script whose policy path is `p`; no request stands for words that are
 // outside the set there.
-const INSIDE: [(&str, Option<&str>); 15] = [
+const INSIDE: [(&str, Option<&str>); 18] = [
     ("unseal|--token|t", Some("unseal t p")),
     (
         "unseal|--token|pcrlock.policy",
@@ -257,6 +314,12 @@ const INSIDE: [(&str, Option<&str>); 15] = [
     ("cel|--firmware-log|p", Some("cel p ?")),
     ("list-components|--components|p", Some("list-components p")),
     ("tpm-boot|--banks|sha1", Some("tpm-boot ? ? None sha1")),
+    (
+        "predict|--components|p|--joint|--pcr|7",
+        Some("predict ? ? p 760- 940- 00000080 Sha256 true"),
+    ),
+    ("predict|--policy|p", None),
+    ("predict|--index|01800100", None),
     ("cel|--policy|q", None),
     ("unseal|--token|p", None),
     ("enroll|--token|p|--literal|11", None),
@@ -323,6 +386,26 @@ fn spelled(alloc: Global, request: &Request) -> Result<String, Fail> {
                 text.push_str(folder.text())?;
             }
             text.push_str(format!(in alloc; " {bank:?}")?.as_str())?;
+            Ok(text)
+        }
+        Request::Predict {
+            firmware_log,
+            userspace_log,
+            components,
+            location,
+            pcr,
+            bank,
+            joint,
+        } => {
+            let (firmware, userspace) = (shown(firmware_log), shown(userspace_log));
+            let mut text = format!(in alloc; "predict {firmware} {userspace}")?;
+            for folder in components.as_slice() {
+                text.push(' ')?;
+                text.push_str(folder.text())?;
+            }
+            let (start, end) = (location.start.text(), location.end.text());
+            let more = format!(in alloc; " {start} {end} {pcr:08x} {bank:?} {joint}")?;
+            text.push_str(more.as_str())?;
             Ok(text)
         }
         Request::TpmExec { commands } => {
@@ -598,6 +681,15 @@ fn answers_are_told(rt: HostRuntime) -> Result<(), Fail> {
     check_answer(&rt, Answer::Memory, "no memory\n")?;
     check_answer(&rt, Answer::NoToken(name), "no token: x y\n")?;
     check_answer(&rt, Answer::NoObject(0x81000000), "no object: 81000000\n")?;
+    check_answer(
+        &rt,
+        Answer::NoDigest {
+            component: Name::from_text(rt.alloc(), "650-kernel")?,
+            variant: Name::from_text(rt.alloc(), "-")?,
+            place: 255,
+        },
+        "no digest: 650-kernel - 255\n",
+    )?;
     check_answer(&rt, Answer::SessionsFull, "sessions full: 64\n")?;
     check_answer(
         &rt,
@@ -636,4 +728,243 @@ fn commands_print_lines(rt: HostRuntime) -> Result<(), Fail> {
         b"= 255\n".as_slice()
     );
     Ok(())
+}
+
+// The hashes of `abc` and of `kernel` in SHA-1.
+const ABC: &str = "a9993e364706816aba3e25717850c26c9cd0d89d";
+
+const KERNEL: &str = "c65a0fb7e74ffd2c9fc3a0f9aacb0f6a24b0a68b";
+
+// What PCR 7 holds in SHA-1 after two extends by the hash of `kernel`.
+const SEVEN: &str = "10ced7d081a9ad94f6284432109eb050c59747b5";
+
+// Records of a log: who measured it, the PCR, and its digest in SHA-1.
+const MEASURED: [(Origin, u8, Option<&str>); 9] = [
+    (Origin::Firmware(4), 4, Some(ABC)),
+    (Origin::Firmware(3), 4, Some(KERNEL)),
+    (Origin::Firmware(5), 6, None),
+    (Origin::Firmware(0xd), 11, Some(ABC)),
+    (Origin::Firmware(0x80000003), 4, Some(ABC)),
+    (Origin::Firmware(0x80000007), 4, Some(KERNEL)),
+    (Origin::Firmware(0x800000e0), 7, Some(KERNEL)),
+    (Origin::Firmware(0x8000000a), 7, Some(KERNEL)),
+    (Origin::User, 11, Some(KERNEL)),
+];
+
+// What `log` prints of them in SHA-1, where the TPM was started at locality 3, PCR 4 has the hash of `abc`,
+// PCR 7 its replay, and each other PCR zeros.
+const LOG_LINES: [&str; 34] = [
+    "0 4 EV_SEPARATOR a9993e364706816aba3e25717850c26c9cd0d89d 300-x",
+    "1 4 EV_NO_ACTION c65a0fb7e74ffd2c9fc3a0f9aacb0f6a24b0a68b -",
+    "2 6 EV_ACTION - -",
+    "3 11 EV_IPL a9993e364706816aba3e25717850c26c9cd0d89d -",
+    "4 4 EV_EFI_BOOT_SERVICES_APPLICATION a9993e364706816aba3e25717850c26c9cd0d89d 300-x",
+    "5 4 EV_EFI_ACTION c65a0fb7e74ffd2c9fc3a0f9aacb0f6a24b0a68b -",
+    "6 7 EV_EFI_VARIABLE_AUTHORITY c65a0fb7e74ffd2c9fc3a0f9aacb0f6a24b0a68b 400-y",
+    "7 7 0x8000000a c65a0fb7e74ffd2c9fc3a0f9aacb0f6a24b0a68b 400-y",
+    "8 11 user c65a0fb7e74ffd2c9fc3a0f9aacb0f6a24b0a68b -",
+    "pcr 0 0000000000000000000000000000000000000003 0000000000000000000000000000000000000000 differs",
+    "pcr 1 0000000000000000000000000000000000000000 0000000000000000000000000000000000000000 ok",
+    "pcr 2 0000000000000000000000000000000000000000 0000000000000000000000000000000000000000 ok",
+    "pcr 3 0000000000000000000000000000000000000000 0000000000000000000000000000000000000000 ok",
+    "pcr 4 dc0df6d2e30e359da69f6485a9e32a2794a9c121 a9993e364706816aba3e25717850c26c9cd0d89d differs",
+    "pcr 5 0000000000000000000000000000000000000000 0000000000000000000000000000000000000000 ok",
+    "pcr 6 - 0000000000000000000000000000000000000000 nodigest",
+    "pcr 7 10ced7d081a9ad94f6284432109eb050c59747b5 10ced7d081a9ad94f6284432109eb050c59747b5 ok",
+    "pcr 8 0000000000000000000000000000000000000000 0000000000000000000000000000000000000000 ok",
+    "pcr 9 0000000000000000000000000000000000000000 0000000000000000000000000000000000000000 ok",
+    "pcr 10 0000000000000000000000000000000000000000 0000000000000000000000000000000000000000 ok",
+    "pcr 11 b3c7cf68dadbc8a5f198d18a5517025a0736699c 0000000000000000000000000000000000000000 differs",
+    "pcr 12 0000000000000000000000000000000000000000 0000000000000000000000000000000000000000 ok",
+    "pcr 13 0000000000000000000000000000000000000000 0000000000000000000000000000000000000000 ok",
+    "pcr 14 0000000000000000000000000000000000000000 0000000000000000000000000000000000000000 ok",
+    "pcr 15 0000000000000000000000000000000000000000 0000000000000000000000000000000000000000 ok",
+    "pcr 16 0000000000000000000000000000000000000000 0000000000000000000000000000000000000000 ok",
+    "pcr 17 ffffffffffffffffffffffffffffffffffffffff 0000000000000000000000000000000000000000 differs",
+    "pcr 18 ffffffffffffffffffffffffffffffffffffffff 0000000000000000000000000000000000000000 differs",
+    "pcr 19 ffffffffffffffffffffffffffffffffffffffff 0000000000000000000000000000000000000000 differs",
+    "pcr 20 ffffffffffffffffffffffffffffffffffffffff 0000000000000000000000000000000000000000 differs",
+    "pcr 21 ffffffffffffffffffffffffffffffffffffffff 0000000000000000000000000000000000000000 differs",
+    "pcr 22 ffffffffffffffffffffffffffffffffffffffff 0000000000000000000000000000000000000000 differs",
+    "pcr 23 0000000000000000000000000000000000000000 0000000000000000000000000000000000000000 ok",
+    "skipped 2",
+];
+
+// Two components, of which the first lists the hash of `abc` in PCR 4, and the other that of `kernel` in
+// PCR 7.
+fn two_components(alloc: Global) -> Result<Tree, Fail> {
+    let first = format!(in alloc;
+        "[{{\"pcr\":4,\"digests\":[{{\"hashAlg\":\"sha1\",\"digest\":\"{ABC}\"}}]}}]"
+    )?;
+    let second = format!(in alloc;
+        "[{{\"pcr\":7,\"digests\":[{{\"hashAlg\":\"sha1\",\"digest\":\"{KERNEL}\"}}]}}]"
+    )?;
+    let mut files = MemFiles::new(alloc, List::new(alloc));
+    files.put("c/300-x.pcrlock", first.as_bytes())?;
+    files.put("c/400-y.pcrlock", second.as_bytes())?;
+    let folders = words(alloc, "c")?;
+    Ok(load_tree(alloc, &mut files, folders.as_slice()).or(Err("no tree"))?)
+}
+
+// The digest in SHA-1 that digits spell.
+fn digest_of(digits: &str) -> Result<Digest, Fail> {
+    Ok(Digest::from_hex(Bank::Sha1, digits)?)
+}
+
+// The records of the log.
+fn measured_records(alloc: Global) -> Result<List<LogRecord>, Fail> {
+    let mut list = List::new(alloc);
+    for (origin, pcr, digits) in MEASURED.iter() {
+        let sha1 = match digits {
+            Some(digits) => Some(digest_of(digits)?),
+            None => None,
+        };
+        let pcr = (*pcr).min(23);
+        list.push(LogRecord {
+            origin: *origin,
+            pcr,
+            digests: Digests {
+                sha1,
+                sha256: None,
+                sha384: None,
+                sha512: None,
+            },
+        })?;
+    }
+    Ok(list)
+}
+
+// The present values of the PCRs.
+fn present_values() -> Result<[Digest; 24], Fail> {
+    let mut values = [Digest::zeros(Bank::Sha1); 24];
+    values[4] = digest_of(ABC)?;
+    values[7] = digest_of(SEVEN)?;
+    Ok(values)
+}
+
+// The text has these lines.
+fn check_lines(
+    rt: &(impl Abort + AllocGlobal),
+    text: &[u8],
+    expected: &[&str],
+) -> Result<(), Fail> {
+    let mut all = String::new(rt.alloc());
+    for line in expected {
+        all.push_str(line)?;
+        all.push('\n')?;
+    }
+    assert_eq!(rt; str::from_utf8(text)?, all.as_str());
+    Ok(())
+}
+
+#[test]
+fn a_log_is_printed(rt: HostRuntime) -> Result<(), Fail> {
+    let alloc = rt.alloc();
+    let list = measured_records(alloc)?;
+    let tree = two_components(alloc)?;
+    let now = present_values()?;
+    let text = log_text(alloc, list.as_slice(), &tree, Bank::Sha1, 3, &now, 2)?;
+    check_lines(&rt, text.as_slice(), LOG_LINES.as_slice())
+}
+
+// A row of these PCRs, with lists of values in SHA-1 each of which commas part.
+fn row_of(alloc: Global, pcrs: u32, lists: &[&str]) -> Result<Row, Fail> {
+    let mut choices = List::new(alloc);
+    for list in lists {
+        let mut values = Vec::new(alloc);
+        for digits in list.split(',') {
+            values.push(digest_of(digits)?)?;
+        }
+        choices.push(Values::from_vec(values).ok_or("no values")?)?;
+    }
+    Ok(Row { pcrs, choices })
+}
+
+// Each cause, by the PCR that it leaves out.
+fn left_out(alloc: Global) -> Result<List<LeftOut>, Fail> {
+    let replayed = digest_of(ABC)?;
+    let now = digest_of(KERNEL)?;
+    let causes = [
+        (0, Cause::NoLogDigest),
+        (2, Cause::ValueDiffers { replayed, now }),
+        (7, Cause::MissingComponent(1)),
+        (23, Cause::Unrecognised),
+    ];
+    let mut left = List::new(alloc);
+    for (pcr, cause) in causes.iter() {
+        left.push(LeftOut {
+            pcr: *pcr,
+            cause: *cause,
+        })?;
+    }
+    Ok(left)
+}
+
+// A prediction of some rows is printed so.
+fn check_prediction(
+    rt: &(impl Abort + AllocGlobal),
+    rows: List<Row>,
+    joint: bool,
+    expected: &[&str],
+) -> Result<(), Fail> {
+    let alloc = rt.alloc();
+    let tree = two_components(alloc)?;
+    let protection = Protection {
+        table: Table {
+            bank: Bank::Sha1,
+            rows,
+        },
+        left: left_out(alloc)?,
+    };
+    let text = predict_text(alloc, &protection, &tree, joint)?;
+    check_lines(rt, text.as_slice(), expected)
+}
+
+#[test]
+fn a_prediction_is_printed(rt: HostRuntime) -> Result<(), Fail> {
+    let alloc = rt.alloc();
+    let mut rows = List::new(alloc);
+    rows.push(row_of(alloc, 1 << 4, &[ABC, KERNEL])?)?;
+    rows.push(row_of(alloc, 1 << 11, &[SEVEN])?)?;
+    check_prediction(
+        &rt,
+        rows,
+        false,
+        &[
+            "0 - no-digest",
+            "2 - value-differs",
+            "4 a9993e364706816aba3e25717850c26c9cd0d89d",
+            "4 c65a0fb7e74ffd2c9fc3a0f9aacb0f6a24b0a68b",
+            "7 - missing 400-y",
+            "11 10ced7d081a9ad94f6284432109eb050c59747b5",
+            "23 - unrecognised",
+        ],
+    )
+}
+
+#[test]
+fn a_joint_prediction_is_printed(rt: HostRuntime) -> Result<(), Fail> {
+    let alloc = rt.alloc();
+    let mut rows = List::new(alloc);
+    rows.push(row_of(
+        alloc,
+        1 << 4 | 1 << 11 | 1 << 12,
+        &[
+            "a9993e364706816aba3e25717850c26c9cd0d89d,c65a0fb7e74ffd2c9fc3a0f9aacb0f6a24b0a68b,a9993e364706816aba3e25717850c26c9cd0d89d",
+            "c65a0fb7e74ffd2c9fc3a0f9aacb0f6a24b0a68b,10ced7d081a9ad94f6284432109eb050c59747b5,a9993e364706816aba3e25717850c26c9cd0d89d",
+        ],
+    )?)?;
+    check_prediction(
+        &rt,
+        rows,
+        true,
+        &[
+            "joint 4,11,12 a9993e364706816aba3e25717850c26c9cd0d89d,c65a0fb7e74ffd2c9fc3a0f9aacb0f6a24b0a68b,a9993e364706816aba3e25717850c26c9cd0d89d",
+            "joint 4,11,12 c65a0fb7e74ffd2c9fc3a0f9aacb0f6a24b0a68b,10ced7d081a9ad94f6284432109eb050c59747b5,a9993e364706816aba3e25717850c26c9cd0d89d",
+            "0 - no-digest",
+            "2 - value-differs",
+            "7 - missing 400-y",
+            "23 - unrecognised",
+        ],
+    )
 }

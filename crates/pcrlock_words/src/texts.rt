@@ -95,6 +95,15 @@ fn answer_words(alloc: Global, answer: &Answer) -> Result<String, Memory>
             let bank = bank.name();
             Ok(format!(in alloc; "bank absent: {bank}\n")?)
         }
+        Answer::NoDigest {
+            component,
+            variant,
+            place,
+        } => {
+            let component = component.text();
+            let variant = variant.text();
+            Ok(format!(in alloc; "no digest: {component} {variant} {place}\n")?)
+        }
     }
 }
 

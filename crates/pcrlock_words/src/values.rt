@@ -1,12 +1,15 @@
-ghost use Rattle.std.specs.Prelude.{◌≡◌, ◌==◌, ◌&&◌, IfOk, length, map, nat_le, not};
+ghost use Rattle.std.specs.Prelude.{◌≡◌, ◌≤◌, ◌==◌, ◌&&◌, IfOk, IfSome, length, map, nat_le, not};
 ghost use Rattle.std.specs.List.{list_any};
 ghost use Rattle.pcrlock_words.specs.Readings.{Gives};
-ghost use Rattle.pcrlock_words.specs.Values.{bank_of, banks_of, bytes_between, folders_of, hex_of, index_of, is_plain, key_of, locality_of, no_bank, number_up_to, nv_handle, parts_of, path_of, pcr_of, with_bank, with_banks};
+ghost use Rattle.pcrlock_words.specs.Values.{bank_of, banks_of, bytes_between, folders_of, hex_of, index_of, is_plain, key_of, locality_of, no_bank, number_up_to, nv_handle, parts_of, path_of, pcr_of, pcrs_of, with_bank, with_banks, with_pcr, with_pcrs};
+ghost use Rattle.pcrlock_words.specs.Windows.{location_of};
 
 use crate::error::WordsError;
 use hash_bank::{Bank, Banks};
 use hex::{FromHex, FromHexError};
 use pl_base::{List, Memory, Name, Small};
+use policy_digest::is_in_mask;
+use predictor::{Window, WindowError};
 use std::alloc::{AllocError, Global};
 
 // How many folders may be given.
@@ -203,7 +206,51 @@ pub(crate) fn read_hex(alloc: Global, value: &str) -> Result<List<u8>, WordsErro
 
 /// The number of a PCR, 0 to 23.
 pub(crate) fn read_pcr(value: &str) -> Option<u8>
-    ensures { result ≡ pcr_of value.now }
+    ensures value { result ≡ pcr_of value.now }
+    ensures in_range { IfSome result (λ pcr. pcr ≤ 23) }
 {
-    Some(read_number(value, LAST_PCR)? as u8)
+    let number = read_number(value, LAST_PCR)?;
+    Some(number as u8)
+}
+
+// The mask with one more PCR.
+fn with_pcr(mask: u32, pcr: u8) -> u32
+    requires { pcr ≤ 23 }
+    ensures { result ≡ with_pcr mask pcr }
+{
+    mask | 1 << pcr
+}
+
+// The mask of the PCRs of these numbers, none of them twice.
+fn pcrs_numbered(numbers: &[&str]) -> Option<u32>
+    ensures { result ≡ with_pcrs 0 (map (λ number. number.now) numbers.now) }
+{
+    let mut mask = 0;
+    for number in numbers {
+        let pcr = read_pcr(number)?;
+        if is_in_mask(mask, pcr) {
+            return None;
+        }
+        mask = with_pcr(mask, pcr);
+    }
+    Some(mask)
+}
+
+/// The PCRs of a list of numbers, none of them twice, as a mask of which bit i stands for PCR i.
+pub(crate) fn read_pcrs(alloc: Global, value: &str) -> Result<u32, WordsError>
+    ensures { Gives result (pcrs_of value.now) }
+{
+    let numbers = parts(alloc, value)?;
+    pcrs_numbered(numbers.as_slice()).ok_or(WordsError::BadWords)
+}
+
+/// The window of a text.
+pub(crate) fn read_location(alloc: Global, value: &str) -> Result<Window, WordsError>
+    ensures { Gives result (location_of value.now) }
+{
+    match Window::read(alloc, value) {
+        Ok(window) => Ok(window),
+        Err(WindowError::BadLocation) => Err(WordsError::BadWords),
+        Err(WindowError::Memory) => Err(WordsError::Memory),
+    }
 }

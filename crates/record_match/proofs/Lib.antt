@@ -3,3 +3,4 @@ pub mod Searches
 pub mod FirstChoice
 pub mod MissingOne
 pub mod Recognised
+pub mod NotedLemmas

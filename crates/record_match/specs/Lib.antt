@@ -7,3 +7,4 @@ pub mod Walk
 pub mod Follow
 pub mod Recognition
 pub mod ListedBy
+pub mod Noted

@@ -9,11 +9,13 @@ mod extending;
 mod following;
 mod lacking;
 mod listing;
+mod noting;
 
 pub use error::MatchError;
 pub use explaining::explain;
 pub use lacking::{RecordPlace, first_lacking};
 pub use listing::listed_by;
+pub use noting::Listing;
 
 #[cfg(test)]
 mod tests;

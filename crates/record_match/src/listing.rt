@@ -71,7 +71,7 @@ fn is_in_variant(variant: &Variant, entry: &LogRecord) -> bool
 }
 
 /// Whether a record of the component says what was measured.
-fn is_in_component(component: &Component, entry: &LogRecord) -> bool
+pub(crate) fn is_in_component(component: &Component, entry: &LogRecord) -> bool
     ensures { result ≡ list_any (λ v. list_any (λ r. tells (row entry.now) (spelled r)) v.records) component.now.variants }
 {
     component

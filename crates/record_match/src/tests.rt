@@ -1,5 +1,5 @@
 //! Recognition on trees that are written as text, and against a body that lists all choices.
-use crate::{MatchError, explain, listed_by};
+use crate::{Listing, MatchError, explain, listed_by};
 use component_tree::{Component, Tree, load_tree};
 use hash_bank::{Bank, Digest, Digests, hash, hash_all};
 use pcr_replay::{LogRecord, Origin};
@@ -308,14 +308,18 @@ fn digests_of(sha1: Option<u8>, sha256: Option<u8>) -> Digests {
     }
 }
 
-/// The component that lists what was measured into PCR 4 with these digests.
-fn listing(tree: &Tree, digests: Digests) -> Option<u32> {
-    let entry = LogRecord {
+/// What was measured into PCR 4 with these digests.
+fn entry_of(digests: Digests) -> LogRecord {
+    LogRecord {
         origin: Origin::User,
         pcr: 4,
         digests,
-    };
-    listed_by(tree, &entry)
+    }
+}
+
+/// The component that lists what was measured into PCR 4 with these digests.
+fn listing(tree: &Tree, digests: Digests) -> Option<u32> {
+    listed_by(tree, &entry_of(digests))
 }
 
 #[test]
@@ -354,5 +358,31 @@ fn all_shared_banks_have_to_agree(rt: HostRuntime) -> Result<(), Fail> {
     assert_eq!(rt; listing(&tree, digests_of(Some(b'b'), Some(b'a'))), None);
     assert_eq!(rt; listing(&tree, digests_of(Some(b'a'), Some(b'b'))), None);
     assert_eq!(rt; listing(&tree, digests_of(None, Some(b'a'))), Some(0));
+    Ok(())
+}
+
+#[test]
+fn an_index_finds_the_same_components(rt: HostRuntime) -> Result<(), Fail> {
+    let tree = tree_of(rt.alloc(), "1=A 2=b|1 3=ab 4=1")?;
+    let index = Listing::new(rt.alloc(), &tree)?;
+    let table = [
+        (None, Some(b'a'), Some(2)),
+        (None, Some(b'b'), Some(1)),
+        (None, Some(b'c'), None),
+        (None, None, None),
+        (Some(b'1'), None, Some(1)),
+        (Some(b'2'), Some(b'a'), Some(2)),
+        (Some(b'1'), Some(b'c'), Some(1)),
+    ];
+    for (sha1, sha256, expected) in table.iter() {
+        let entry = entry_of(digests_of(*sha1, *sha256));
+        assert_eq!(rt; index.find(&tree, &entry), *expected);
+    }
+    let tree = tree_of_two_banks(rt.alloc())?;
+    let index = Listing::new(rt.alloc(), &tree)?;
+    let same = entry_of(digests_of(Some(b'a'), Some(b'a')));
+    assert_eq!(rt; index.find(&tree, &same), Some(0));
+    let other = entry_of(digests_of(Some(b'a'), Some(b'b')));
+    assert_eq!(rt; index.find(&tree, &other), None);
     Ok(())
 }

@@ -14,9 +14,12 @@ mod kept;
 mod layout;
 mod objects;
 mod sessions;
+#[cfg(test)]
+mod tests;
 mod version;
 
 pub use crate::decoding::decode;
 pub use crate::encoding::encode;
 pub use crate::error::DecodeError;
 pub use crate::file_tpm::FileTpm;
+pub use tpm_commands::{CommandsError, read_commands, response_line};

@@ -1,8 +1,7 @@
 -- A command of anyone leaves the state and the world hanging together.
-use Rattle.std.proofs.Common.{◌≡◌, ℕ, ◌+◌, true, List, ◌∷◌, [], ◌++◌, map, refl, sym, ap, subst, arith}
+use Rattle.std.proofs.Common.{◌≡◌, ℕ, ◌+◌, true, List, ◌∷◌, [], ◌++◌, map, refl, sym, subst, arith}
 use Rattle.std.specs.Prelude.{Some, remove}
 use Rattle.std.proofs.lemmas.List.{map-append}
-use Rattle.hash_bank.specs.HashedString.{HashedString}
 use Rattle.nv_index.specs.Handles.{are_handles}
 use Rattle.nv_index.specs.Table.{index_at}
 use Rattle.nv_index.specs.declared.index.Index.{Index}
@@ -23,6 +22,8 @@ use Rattle.tpm_model.specs.Strings.{command_strings, write_strings}
 use Rattle.tpm_model.specs.Tied.{Tied}
 use Rattle.tpm_model.specs.World.{World, AreHashed, hashed_world}
 use Rattle.tpm_model.proofs.Handles.{handles_push, handles_remove}
+use Rattle.tpm_worlds.specs.CommandLists.{state_after}
+use Rattle.tpm_worlds.specs.EventLists.{world_after_all}
 use Rattle.tpm_worlds.proofs.Cases.{by_evict, by_flush_session, by_nv_define, by_nv_read, by_nv_read_public, by_nv_undefine, by_nv_write, by_pcr_extend, by_pcr_read, by_policy_authorize_nv, by_policy_get_digest, by_policy_or, by_policy_pcr, by_restart, by_seal, by_start_session, by_unseal}
 use Rattle.tpm_worlds.proofs.Ties.{all_hashed, follows, same_tied, tied_evicted, tied_hashed, tied_object, tied_strange, tied_undefined}
 
@@ -36,7 +37,7 @@ nothing c t v same tie (answer.Refused why) = tie
 nothing c t v same tie r = subst (Tied t) (sym same) tie
 
 -- the strings of the pin that is written with were hashed
-written_strings : (index : ℕ) (pin : List ℕ) (s : Parts) (v : World) (x : Index) → index_at index s.indices ≡ Some x → AreHashed v (write_strings (index_at index s.indices) pin) → AreHashed v (pin_strings pin)
+pub written_strings : (index : ℕ) (pin : List ℕ) (s : Parts) (v : World) (x : Index) → index_at index s.indices ≡ Some x → AreHashed v (write_strings (index_at index s.indices) pin) → AreHashed v (pin_strings pin)
 written_strings index pin s v x e h = subst (λ o. AreHashed v (write_strings o pin)) e h
 
 -- a command, in a world that has its strings
@@ -69,6 +70,11 @@ goes (command.Unseal session handle) s v h t =
 -- the world after a command of anyone is tied to the state that it leaves
 pub tied_after_command : (c : Command) (s : Parts) (w : World) → Tied s w → Tied (respond c s).1 (world_after (Other c) s w)
 tied_after_command c s w t = goes c s (hashed_world (command_strings c s) w) (all_hashed w (command_strings c s)) (tied_hashed s w (command_strings c s) t)
+
+-- and so after commands that come one after the other
+pub tied_after_commands : (commands : List Command) (s : Parts) (w : World) → Tied s w → Tied (state_after commands s) (world_after_all (map Other commands) s w)
+tied_after_commands [] s w t = t
+tied_after_commands (c ∷ commands) s w t = tied_after_commands commands (respond c s).1 (world_after (Other c) s w) (tied_after_command c s w t)
 
 -- the objects of the state that is left are in order
 abbrev pub IsOrdered : Response × Parts → Type 0

@@ -1,6 +1,6 @@
 -- Each command by the cases of its answer: what holds of every refusal and of what is left where it is
 -- accepted holds of what it answers and leaves.
-use Rattle.std.proofs.Common.{◌≡◌, ℕ, ◌+◌, ◌^◌, ◌<◌, ◌==◌, Bool, true, false, cond, not, List, [], ◌∷◌, ◌++◌, length, ◌||◌, refl, sym, ap, ◌∙◌, arith}
+use Rattle.std.proofs.Common.{◌≡◌, ℕ, ◌+◌, ◌^◌, ◌<◌, ◌==◌, true, not, List, [], ◌∷◌, ◌++◌, length, ◌||◌, refl}
 use Rattle.std.specs.Prelude.{nat_le, nat_lt, slice_get, remove, Option, None, Some, Result, Ok, Err}
 use Rattle.std.proofs.lemmas.Bool.{cond_both, eqb-true, leb-false}
 use Rattle.hash_bank.specs.declared.bank.Bank.{Bank}
@@ -23,12 +23,12 @@ use Rattle.tpm_model.specs.declared.response.Response.{Response}
 use Rattle.tpm_model.specs.declared.response.Response.TheVariants as answer
 use Rattle.tpm_model.specs.declared.sessions.Session.{Session}
 use Rattle.tpm_model.specs.declared.trail.TrailEntry.TheVariants as entry
-use Rattle.tpm_model.specs.IndexCommands.{content_answer, nv_define, nv_define_unless, nv_read, nv_read_public, nv_undefine, nv_undefine_unless, nv_write, nv_write_unless, public_answer, refusal_of}
-use Rattle.tpm_model.specs.ObjectCommands.{evict, evict_on, is_policy_size, object_handle, seal, unseal, unseal_noted, unseal_now, unseal_of, unseal_on}
+use Rattle.tpm_model.specs.IndexCommands.{content_answer, nv_define, nv_define_unless, nv_read, nv_read_public, nv_undefine, nv_undefine_unless, nv_write, nv_write_unless, public_answer}
+use Rattle.tpm_model.specs.ObjectCommands.{evict, evict_on, is_policy_size, object_handle, seal, unseal, unseal_noted, unseal_of, unseal_on}
 use Rattle.tpm_model.specs.PcrCommands.{is_start_locality, pcr_extend, pcr_read, restart, value_or_absent}
 use Rattle.tpm_model.specs.Pcrs.{after_extend, bank_count, pcr_of}
 use Rattle.tpm_model.specs.Refusing.{refused}
-use Rattle.tpm_model.specs.SessionCommands.{content_in, digest_on, flush_on, flush_session, is_wrong_list, noted_before, policy_authorize_nv, policy_authorize_nv_at, policy_authorize_nv_by, policy_authorize_nv_on, policy_get_digest, policy_or, policy_or_on, policy_pcr, policy_pcr_noted, policy_pcr_now, policy_pcr_on, present_digest, session_handle, start_session, with_entry, with_pcrs, with_session}
+use Rattle.tpm_model.specs.SessionCommands.{content_in, digest_on, flush_on, flush_session, is_wrong_list, noted_before, policy_authorize_nv, policy_authorize_nv_at, policy_authorize_nv_by, policy_authorize_nv_on, policy_get_digest, policy_or, policy_or_on, policy_pcr, policy_pcr_noted, policy_pcr_on, present_digest, session_handle, start_session, with_entry, with_pcrs, with_session}
 use Rattle.tpm_model.specs.Sessions.{fresh_session, is_session_hash, object_at, object_place, session_at, session_place}
 use Rattle.tpm_model.specs.StartValues.{start_values}
 use Rattle.tpm_model.proofs.KeepsRules.{from_not}

@@ -16,7 +16,7 @@ responses_push [] c s = refl
 responses_push (x ∷ xs) c s = ap (λ rs. (respond x s).0 ∷ rs) (responses_push xs c (respond x s).1)
 
 -- the first of the commands, and the next
-next : (commands : List Command) (i : ℕ) (item : Command) → i < length commands → item ≡ get_or commands i item → take (i + 1) commands ≡ take i commands ++ item ∷ []
+pub next : (commands : List Command) (i : ℕ) (item : Command) → i < length commands → item ≡ get_or commands i item → take (i + 1) commands ≡ take i commands ++ item ∷ []
 next commands i item within is = take_more commands i item within ∙ ap (λ x. take i commands ++ x ∷ []) (sym is)
 
 pub state_next : (commands : List Command) (i : ℕ) (item : Command) (s now : Parts) → i < length commands → item ≡ get_or commands i item → now ≡ state_after (take i commands) s

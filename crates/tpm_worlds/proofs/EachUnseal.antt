@@ -1,27 +1,23 @@
 -- Each Unseal of a list of events opens by the value alone.
-use Rattle.std.proofs.Common.{◌≡◌, ℕ, List, [], ◌∷◌, map, refl, sym, ap, subst, ◌∙◌, Contains}
-use Rattle.std.specs.Prelude.{Option, None, Some}
+use Rattle.std.proofs.Common.{◌≡◌, ℕ, List, [], ◌∷◌, map, refl, sym, ap, ◌∙◌}
+use Rattle.std.specs.Prelude.{Some}
 use Rattle.std.specs.FinMap.{get}
 use Rattle.hash_bank.specs.declared.bank.Bank.{Bank}
-use Rattle.hash_bank.specs.HashedString.{HashedString}
 use Rattle.tpm_model.specs.declared.command.Command.{Command}
-use Rattle.tpm_model.specs.declared.command.Command.TheVariants as command
 use Rattle.tpm_model.specs.declared.object.Object.{Object}
 use Rattle.tpm_model.specs.declared.parts.Parts.{Parts}
-use Rattle.tpm_model.specs.declared.response.Response.{Response}
 use Rattle.tpm_model.specs.declared.response.Response.TheVariants as answer
 use Rattle.tpm_model.specs.Binding.{Literal}
 use Rattle.tpm_model.specs.Events.{Event, Other, command_of, world_after}
 use Rattle.tpm_model.specs.ObjectCommands.{unseal}
-use Rattle.tpm_model.specs.Pcrs.{pcr_of}
 use Rattle.tpm_model.specs.Respond.{respond}
 use Rattle.tpm_model.specs.Rules.{HasRules}
-use Rattle.tpm_model.specs.Sessions.{session_at, session_place}
+use Rattle.tpm_model.specs.Sessions.{session_place}
 use Rattle.tpm_model.specs.Tied.{IsHeld}
-use Rattle.tpm_model.specs.World.{BoundObject, World}
+use Rattle.tpm_model.specs.World.{World}
 use Rattle.nv_index.proofs.Lists.{all_at}
 use Rattle.tpm_worlds.specs.CommandLists.{state_after}
-use Rattle.tpm_worlds.specs.EventLists.{AreFair, EachOpensByValue, IsFair, IsOpened, OpensByValue, Safe, world_after_all}
+use Rattle.tpm_worlds.specs.EventLists.{AreFair, EachOpensByValue, IsOpened, OpensByValue, Safe, world_after_all}
 use Rattle.tpm_worlds.specs.SealedTie.{SealedTie}
 use Rattle.tpm_worlds.proofs.Cases.{by_unseal}
 use Rattle.tpm_worlds.proofs.Opened.{opened}
@@ -30,7 +26,7 @@ use Rattle.tpm_worlds.proofs.Steady.{Steady, grows_after, steady_after, steady_f
 use Rattle.tpm_worlds.proofs.Ties.{Grows}
 
 -- strings that are among safe ones are safe
-safe_before : (w v : World) → Grows w v → Safe v → Safe w
+pub safe_before : (w v : World) → Grows w v → Safe v → Safe w
 safe_before w v grows safe = record {
   distinct = λ s t h k. safe.distinct s t (grows s h) (grows t k);
   nonzero = λ s h. safe.nonzero s (grows s h);
@@ -93,3 +89,8 @@ tie_after_all events s w h t fair = tie_from _ _ (steady_all events s w (steady_
 pub others_fair : (commands : List Command) (s : Parts) (w : World) → AreFair (map Other commands) s w
 others_fair [] s w = tt
 others_fair (c ∷ commands) s w = (tt, others_fair commands (respond c s).1 (world_after (Other c) s w))
+
+-- the commands of events of anyone are these
+pub others_command : (commands : List Command) → map command_of (map Other commands) ≡ commands
+others_command [] = refl
+others_command (c ∷ commands) = ap (λ cs. c ∷ cs) (others_command commands)

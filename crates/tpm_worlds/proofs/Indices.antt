@@ -1,14 +1,12 @@
 -- How indices hang together with the updates, as a command changes one of them.
-use Rattle.std.proofs.Common.{◌≡◌, ℕ, ◌+◌, ◌^◌, ◌<◌, ◌≤◌, ◌==◌, Bool, true, false, cond, List, [], ◌∷◌, ◌++◌, map, set, ◌⊎◌, inl, inr, refl, sym, ap, subst, ◌∙◌, arith, Contains}
-use Rattle.std.specs.Prelude.{◌↔◌, nat_le, remove, Option, None, Some, is_some}
+use Rattle.std.proofs.Common.{◌≡◌, ℕ, ◌≤◌, true, List, map, ◌⊎◌, inl, inr, sym, ap, ◌∙◌, Contains}
+use Rattle.std.specs.Prelude.{◌↔◌, nat_le, Some}
 use Rattle.std.specs.FinMap.{get}
-use Rattle.std.specs.List.{list_all}
 use Rattle.std.proofs.lemmas.Bool.{and_parts, leb-true}
 use Rattle.nv_index.specs.Table.{index_at, index_place, is_counted, is_numbered_within}
 use Rattle.nv_index.specs.declared.index.Index.{Index}
 use Rattle.nv_index.specs.declared.index.Written.{Written}
 use Rattle.nv_index.proofs.Lists.{passes_at}
-use Rattle.policy_digest.specs.PlainTable.{PlainTable}
 use Rattle.tpm_model.specs.declared.parts.Parts.{Parts}
 use Rattle.tpm_model.specs.Rules.{HasRules}
 use Rattle.tpm_model.specs.WholeTie.{HoldsRoot, IsLive, IsStrange, TiedIndices}

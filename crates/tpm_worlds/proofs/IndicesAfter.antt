@@ -1,22 +1,18 @@
 -- Each command on indices leaves them hanging together with the updates.
 use Rattle.std.proofs.Common.{◌≡◌, ℕ, zero, suc, ◌+◌, ◌^◌, ◌<◌, ◌≤◌, ◌==◌, Bool, true, false, cond, List, [], ◌∷◌, ◌++◌, map, set, ◌⊎◌, inl, inr, refl, sym, ap, subst, ◌∙◌, arith, Contains}
-use Rattle.std.specs.Prelude.{◌↔◌, remove, slice_get, Option, None, Some, is_some}
+use Rattle.std.specs.Prelude.{◌↔◌, slice_get, Option, None, Some, is_some}
 use Rattle.std.specs.FinMap.{get, get-insert, get-remove, insert}
-use Rattle.std.specs.Ordering.{nat_cmp, eq_by_cmp}
 use Rattle.std.specs.Cmp.{nat_cmp_total, unsigned_tied}
-use Rattle.std.specs.List.{AllByRecursion}
 use Rattle.std.proofs.lemmas.Bool.{eqb-false, eqb-true, eq-eqb}
 use Rattle.std.proofs.lemmas.List.Elements.{Contains-append_left, Contains-append_cases, Contains-push}
-use Rattle.hash_bank.specs.declared.bank.Bank.TheVariants.{Sha256}
-use Rattle.hash_bank.specs.HashedString.{HashedString}
-use Rattle.nv_index.specs.Table.{after_write, after_write_of, define_refusal, index_at, index_place, unwritten, with_index, without_index, written_with}
+use Rattle.nv_index.specs.Table.{define_refusal, index_at, index_place, unwritten, with_index, without_index, written_with}
 use Rattle.nv_index.specs.declared.index.Index.{Index}
 use Rattle.nv_index.specs.declared.index.NvPublic.{NvPublic}
 use Rattle.nv_index.specs.declared.index.Written.{Written}
 use Rattle.nv_index.proofs.Handles.{AreHandles, handles_from_test}
 use Rattle.nv_index.proofs.Lists.{all_remove, all_set}
 use Rattle.nv_index.proofs.TableKeeps.{definable}
-use Rattle.policy_digest.specs.Pin.{pin_policy_of, policy_signed_of, pin_strings, signed_string}
+use Rattle.policy_digest.specs.Pin.{pin_policy_of}
 use Rattle.policy_digest.specs.PlainTable.{PlainTable}
 use Rattle.tpm_model.specs.declared.parts.Parts.{Parts}
 use Rattle.tpm_model.specs.Events.{content_of_table, strange_world, undefined_world, updated_world}
@@ -27,7 +23,7 @@ use Rattle.tpm_model.specs.World.{LiveIndex, PolicyUpdate, World}
 use Rattle.tpm_model.proofs.KeepsIndices.{indices_kept}
 use Rattle.tpm_worlds.specs.WholeEvents.{KnowsPins}
 use Rattle.tpm_worlds.proofs.IndexPlaces.{found_handle, none_left, removed_at, removed_at_other, set_at, set_at_other, with_at, with_at_other}
-use Rattle.tpm_worlds.proofs.Indices.{live_stays, number_counted, other_stays, root_stays}
+use Rattle.tpm_worlds.proofs.Indices.{live_stays, other_stays, root_stays}
 use Rattle.tpm_worlds.proofs.Members.{all_of, all_with, member}
 use Rattle.tpm_worlds.proofs.Ties.{only, pushed}
 

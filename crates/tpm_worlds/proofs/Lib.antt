@@ -15,3 +15,8 @@ pub mod Members
 pub mod IndexPlaces
 pub mod Indices
 pub mod IndicesAfter
+pub mod SamePin
+pub mod TrailReads
+pub mod Ranges
+pub mod WholeAfter
+pub mod WholeLists

@@ -1,26 +1,23 @@
 -- An Unseal of an object that is bound to one value of one PCR: the session's newest entry is the look
 -- at that PCR, so the PCR holds the value now.
-use Rattle.std.proofs.Common.{◌≡◌, ℕ, ◌+◌, ◌^◌, ◌<◌, Bool, true, false, cond, ◌==◌, List, [], ◌∷◌, ◌++◌, length, ◌⊎◌, inl, inr, refl, sym, ap, subst, ◌∙◌, lit<, Contains, append-nil, arith}
-use Rattle.std.specs.Prelude.{reverse, Option, None, Some}
-use Rattle.std.specs.List.{AllByRecursion}
-use Rattle.std.proofs.lemmas.Bool.{eqb-true}
+use Rattle.std.proofs.Common.{◌≡◌, ℕ, ◌^◌, ◌<◌, List, [], ◌∷◌, length, inl, inr, refl, sym, ap, subst, ◌∙◌, lit<, Contains, append-nil, arith}
+use Rattle.std.specs.Prelude.{reverse, None, Some}
 use Rattle.hash_bank.specs.declared.bank.Bank.{Bank}
-use Rattle.hash_bank.specs.declared.bank.Bank.TheVariants.{Sha1, Sha256, Sha384, Sha512}
 use Rattle.hash_bank.specs.Hash.{digest_in, size_in, zeros_in}
-use Rattle.hash_bank.specs.HashedString.{HashedString, NoClash}
+use Rattle.hash_bank.specs.HashedString.{HashedString}
 use Rattle.hash_bank.proofs.Sizes.{length-digest_in, length-zeros_in}
 use Rattle.policy_digest.specs.BindingStrings.{literal_strings}
 use Rattle.policy_digest.specs.Policies.{IsPolicyHash}
-use Rattle.policy_digest.specs.Strings.{nv_string_in, or_string_in, pcr_string_in, values_string}
+use Rattle.policy_digest.specs.Strings.{pcr_string_in, values_string}
 use Rattle.tpm_model.specs.declared.parts.Parts.{Parts}
 use Rattle.tpm_model.specs.declared.sessions.Session.{Session}
 use Rattle.tpm_model.specs.declared.trail.TrailEntry.{TrailEntry}
 use Rattle.tpm_model.specs.declared.trail.TrailEntry.TheVariants.{Pcr, Or, AuthorizeNv}
 use Rattle.tpm_model.specs.Binding.{literal_policy}
-use Rattle.tpm_model.specs.Pcrs.{chosen, pcr_of, present_digest_in, values_of, HasValues}
+use Rattle.tpm_model.specs.Pcrs.{pcr_of, HasValues}
 use Rattle.tpm_model.specs.SessionCommands.{noted_before}
 use Rattle.tpm_model.specs.Strings.{joined_values}
-use Rattle.tpm_model.specs.Trails.{digest_of_in, entry_string_in, trail_digest}
+use Rattle.tpm_model.specs.Trails.{digest_of_in}
 use Rattle.tpm_model.specs.World.{World, AreHashed}
 use Rattle.tpm_worlds.specs.SealedTie.{AreHashedEntries}
 use Rattle.tpm_worlds.specs.EventLists.{Safe}

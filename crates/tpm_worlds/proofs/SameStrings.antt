@@ -1,11 +1,11 @@
 -- What two strings of policies that are equal have in common.
-use Rattle.std.proofs.Common.{◌≡◌, ℕ, ◌+◌, ◌/◌, ◌%◌, ◌^◌, List, [], ◌∷◌, ◌++◌, length, get_or, refl, sym, ap, ◌∙◌, arith, suc, zero}
-use Rattle.std.specs.Int.{w16, w32, to_be_bytes}
+use Rattle.std.proofs.Common.{◌≡◌, ℕ, ◌/◌, ◌%◌, List, [], ◌∷◌, ◌++◌, length, get_or, refl, ap, ◌∙◌, arith}
+use Rattle.std.specs.Int.{w32, to_be_bytes}
 use Rattle.std.proofs.lemmas.List.{append_cancel_left, append_cancel_right}
 use Rattle.hash_bank.specs.declared.bank.Bank.{Bank}
 use Rattle.hash_bank.specs.declared.bank.Bank.TheVariants.{Sha1, Sha256, Sha384, Sha512}
 use Rattle.hash_bank.specs.Hash.{algorithm_in, zeros_in}
-use Rattle.policy_digest.specs.Strings.{nv_string_in, or_string_in, pcr_string_in, policy_authorize_nv_code, policy_or_code, policy_pcr_code, selection_of}
+use Rattle.policy_digest.specs.Strings.{nv_string_in, or_string_in, pcr_string_in, policy_pcr_code, selection_of}
 
 -- fronts of one length, and what stands behind them
 pub record AreParts {A : Type 0} (a b c d : List A) : Type 0 where

@@ -1,14 +1,12 @@
 -- What is kept of a session: its digest is the fold of its trail, whose strings were hashed, and while
 -- no PCR was extended since it looked at some, it saw what they hold now.
-use Rattle.std.proofs.Common.{◌≡◌, ℕ, ◌+◌, ◌^◌, ◌<◌, ◌≤◌, ◌==◌, Bool, true, false, cond, not, ◌&&◌, List, [], ◌∷◌, ◌++◌, ◌⊎◌, inl, inr, refl, sym, ap, subst, ◌∙◌, arith, Contains}
-use Rattle.std.specs.Prelude.{nat_le, reverse, slice_get, slice_set, remove, Option, None, Some}
+use Rattle.std.proofs.Common.{◌≡◌, ℕ, ◌+◌, ◌^◌, ◌<◌, ◌≤◌, ◌==◌, true, false, cond, not, List, [], ◌∷◌, ◌++◌, refl, sym, ap, subst, ◌∙◌, arith, Contains}
+use Rattle.std.specs.Prelude.{nat_le, reverse, Option, None, Some}
 use Rattle.std.specs.List.{AllByRecursion, list_all}
 use Rattle.std.specs.Str.{bytes_eq}
 use Rattle.std.proofs.lemmas.Bool.{and_parts, eq-eqb, eqb-true, leb-true}
 use Rattle.hash_bank.specs.declared.bank.Bank.{Bank}
 use Rattle.hash_bank.specs.Banks.{has_bank}
-use Rattle.hash_bank.specs.HashedString.{HashedString}
-use Rattle.hash_bank.specs.Hash.{digest_in}
 use Rattle.policy_digest.specs.Policies.{IsPolicyHash, policy_pcr_of}
 use Rattle.policy_digest.specs.Strings.{values_string}
 use Rattle.nv_index.proofs.Lists.{all_push}
@@ -19,16 +17,16 @@ use Rattle.tpm_model.specs.declared.trail.TrailEntry.TheVariants as entry
 use Rattle.tpm_model.specs.declared.trail.TrailEntry.TheVariants.{Pcr, Or, AuthorizeNv}
 use Rattle.tpm_model.specs.Pcrs.{chosen, present_digest_in, values_of}
 use Rattle.tpm_model.specs.SessionCommands.{noted_before, present_digest, with_entry, with_pcrs}
-use Rattle.tpm_model.specs.SessionRules.{is_folded, is_noted_by, is_now, is_up_to_date, saw_present}
+use Rattle.tpm_model.specs.SessionRules.{is_noted_by, is_now, is_up_to_date, saw_present}
 use Rattle.tpm_model.specs.Sessions.{fresh_session, is_session_hash}
 use Rattle.tpm_model.specs.Shape.{IsEntryShape}
 use Rattle.tpm_model.specs.Strings.{joined_values}
-use Rattle.tpm_model.specs.Trails.{digest_after, digest_of_in, entry_string_in, has_pcr_entry, is_pcr_entry, trail_digest}
+use Rattle.tpm_model.specs.Trails.{digest_after, entry_string_in, has_pcr_entry, trail_digest}
 use Rattle.tpm_model.specs.WholeTie.{HasHashedValues}
 use Rattle.tpm_model.specs.World.{World}
 use Rattle.tpm_model.proofs.KeepsRules.{KeepsSession, policy_hash}
 use Rattle.tpm_model.proofs.TrailSteps.{bytes_same, digest_step, newest_first}
-use Rattle.tpm_worlds.specs.SealedTie.{AreHashedEntries, IsHashedEntry, IsHashedName, IsHashedSession}
+use Rattle.tpm_worlds.specs.SealedTie.{AreHashedEntries, IsHashedEntry, IsHashedSession}
 use Rattle.tpm_worlds.proofs.Ties.{Grows}
 use Rattle.tpm_worlds.proofs.Trails.{all_map}
 

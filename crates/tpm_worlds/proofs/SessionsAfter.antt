@@ -1,15 +1,12 @@
 -- What is kept of each session, every command keeps.
-use Rattle.std.proofs.Common.{◌≡◌, ℕ, ◌+◌, true, cond, List, [], ◌∷◌, refl, sym, ap, subst, lit<, Contains}
-use Rattle.std.specs.Prelude.{Option, None, Some}
+use Rattle.std.proofs.Common.{◌≡◌, ℕ, true, cond, List, [], ◌∷◌, refl, subst, lit<, Contains}
+use Rattle.std.specs.Prelude.{Some}
 use Rattle.std.specs.List.{AllByRecursion}
 use Rattle.hash_bank.specs.declared.bank.Bank.{Bank}
-use Rattle.hash_bank.specs.declared.bank.Bank.TheVariants.{Sha256}
 use Rattle.hash_bank.specs.Banks.{has_bank}
-use Rattle.hash_bank.specs.HashedString.{HashedString}
 use Rattle.nv_index.specs.IndexName.{index_name_of}
 use Rattle.nv_index.specs.Table.{index_at}
 use Rattle.nv_index.specs.declared.index.Index.{Index}
-use Rattle.nv_index.specs.declared.index.Written.{Written}
 use Rattle.nv_index.proofs.Lists.{all_at, all_push, all_remove, all_set}
 use Rattle.policy_digest.specs.BindingStrings.{name_strings_in}
 use Rattle.policy_digest.specs.Strings.{or_string_in, pcr_string_in}
@@ -55,7 +52,7 @@ or_hashed : (handle : ℕ) (list : List (List ℕ)) (s : Parts) (v : World) (x :
     → AreHashed v (or_strings (session_at handle s.sessions) list) → Contains v.hashed (record { hash = x.hash; bytes = or_string_in x.hash list })
 or_hashed handle list s v x e h = subst (λ o. AreHashed v (or_strings o list)) e h _ (0, lit< tt, refl)
 
-nv_hashed : (handle index : ℕ) (s : Parts) (v : World) (x : Session) (i : Index) → session_at handle s.sessions ≡ Some x → index_at index s.indices ≡ Some i
+pub nv_hashed : (handle index : ℕ) (s : Parts) (v : World) (x : Session) (i : Index) → session_at handle s.sessions ≡ Some x → index_at index s.indices ≡ Some i
     → AreHashed v (nv_strings (session_at handle s.sessions) (index_at index s.indices)) → AreHashed v (name_strings_in x.hash i.public)
 nv_hashed handle index s v x i e f h =
     subst (λ o. AreHashed v (nv_strings (Some x) o)) f (subst (λ o. AreHashed v (nv_strings o (index_at index s.indices))) e h)

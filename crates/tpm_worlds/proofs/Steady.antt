@@ -1,5 +1,5 @@
 -- What every event keeps, and where it comes from.
-use Rattle.std.proofs.Common.{◌≡◌, ℕ, ◌+◌, ◌≤◌, true, List, [], ◌∷◌, ◌++◌, map, length, refl, sym, ap, subst, ◌∙◌, arith, Contains}
+use Rattle.std.proofs.Common.{◌≡◌, ℕ, ◌+◌, true, List, [], ◌∷◌, ◌++◌, map, refl, sym, subst, ◌∙◌, arith, Contains}
 use Rattle.std.specs.Prelude.{Option, None, Some}
 use Rattle.std.specs.List.{AllByRecursion, list_all}
 use Rattle.std.proofs.lemmas.Bool.{and_parts}
@@ -21,18 +21,17 @@ use Rattle.tpm_model.specs.declared.parts.Parts.{Parts}
 use Rattle.tpm_model.specs.declared.response.Response.{Response}
 use Rattle.tpm_model.specs.declared.response.Response.TheVariants as answer
 use Rattle.tpm_model.specs.declared.sessions.Session.{Session}
-use Rattle.tpm_model.specs.Binding.{Index, binding_strings, policy_of}
+use Rattle.tpm_model.specs.Binding.{Index, policy_of}
 use Rattle.tpm_model.specs.Events.{Event, Update, Define, SealTo, SealPin, Other, accepted_world, command_of, content_of_table, event_strings, other_world, pinned_world, world_after}
 use Rattle.tpm_model.specs.ObjectCommands.{object_handle}
 use Rattle.tpm_model.specs.ObjectRules.{keeps_object_order}
-use Rattle.tpm_model.specs.PcrCommands.{pcr_extend}
 use Rattle.tpm_model.specs.Pcrs.{extended_in, pcr_of, place_of, put_extended, HasValues}
 use Rattle.tpm_model.specs.Respond.{respond}
 use Rattle.tpm_model.specs.Rules.{HasRules}
 use Rattle.tpm_model.specs.SessionRules.{has_members, has_reads, is_folded, is_noted, is_up_to_date}
 use Rattle.tpm_model.specs.Sessions.{object_at}
 use Rattle.tpm_model.specs.Strings.{command_strings}
-use Rattle.tpm_model.specs.Tied.{Tied, IsSoundBinding}
+use Rattle.tpm_model.specs.Tied.{Tied}
 use Rattle.tpm_model.specs.WholeTie.{IsFiledHashed}
 use Rattle.tpm_model.specs.World.{World, AreHashed, FiledPolicy, hashed_world}
 use Rattle.tpm_model.proofs.Handles.{handles_from_test}
@@ -45,7 +44,7 @@ use Rattle.tpm_worlds.proofs.AfterCommand.{Goes, goes, order_after_command}
 use Rattle.tpm_worlds.proofs.Cases.{by_evict, by_flush_session, by_nv_define, by_nv_read, by_nv_read_public, by_nv_undefine, by_nv_write, by_pcr_extend, by_pcr_read, by_policy_authorize_nv, by_policy_get_digest, by_policy_or, by_policy_pcr, by_restart, by_seal, by_start_session, by_unseal}
 use Rattle.tpm_worlds.proofs.Sessions.{IsGood, good_from, good_on, hashed_from}
 use Rattle.tpm_worlds.proofs.SessionsAfter.{AreGood, sessions_after}
-use Rattle.tpm_worlds.proofs.Ties.{Grows, all_hashed, more_hashed, none_found, same_tied, sound_on, tied_bound, tied_hashed, tied_pinned, tied_updated}
+use Rattle.tpm_worlds.proofs.Ties.{Grows, all_hashed, none_found, same_tied, sound_on, tied_bound, tied_hashed, tied_pinned, tied_updated}
 use Rattle.tpm_worlds.proofs.Trails.{all_map}
 
 -- the values have their sizes
@@ -141,7 +140,7 @@ filed_on w v grows (Some filed) h = (
 )
 
 -- the strings of a command are among those of its event
-command_hashed : (event : Event) (s : Parts) (w : World) → AreHashed (hashed_world (event_strings event s) w) (command_strings (command_of event) s)
+pub command_hashed : (event : Event) (s : Parts) (w : World) → AreHashed (hashed_world (event_strings event s) w) (command_strings (command_of event) s)
 command_hashed (Update handle pin table) s w = λ x k.
     Contains-append_right w.hashed (event_strings (Update handle pin table) s) x
     (Contains-append_left _ (bind_strings handle pin) x (Contains-append_left _ (table_strings table) x k))

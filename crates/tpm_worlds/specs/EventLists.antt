@@ -2,7 +2,7 @@
 use Rattle.std.specs.Prelude.{◌≡◌, ℕ, List, [], ◌∷◌, Contains, Some}
 use Rattle.std.specs.FinMap.{get}
 use Rattle.hash_bank.specs.declared.bank.Bank.{Bank}
-use Rattle.hash_bank.specs.HashedString.{HashedString, NoClash}
+use Rattle.hash_bank.specs.HashedString.{NoClash}
 use Rattle.tpm_model.specs.declared.command.Command.TheVariants as command
 use Rattle.tpm_model.specs.declared.response.Response.TheVariants as answer
 use Rattle.tpm_model.specs.declared.parts.Parts.{Parts}

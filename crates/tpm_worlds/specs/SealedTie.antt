@@ -4,7 +4,6 @@ use Rattle.std.specs.Prelude.{◌≡◌, ℕ, List, [], ◌∷◌, reverse, Cont
 use Rattle.std.specs.List.{AllByRecursion}
 use Rattle.hash_bank.specs.declared.bank.Bank.{Bank}
 use Rattle.hash_bank.specs.declared.bank.Bank.TheVariants.{Sha256}
-use Rattle.hash_bank.specs.HashedString.{HashedString}
 use Rattle.nv_index.specs.IndexName.{index_name_of, index_string}
 use Rattle.nv_index.specs.declared.index.NvPublic.{NvPublic}
 use Rattle.tpm_model.specs.declared.parts.Parts.{Parts}

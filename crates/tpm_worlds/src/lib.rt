@@ -4,5 +4,7 @@
 #![tactic(auto)]
 
 mod stepping;
+#[cfg(test)]
+mod tests;
 
 pub use crate::stepping::step_all;

@@ -1,12 +1,13 @@
 //! Commands that come one after the other.
 ghost use Rattle.std.specs.Prelude.{◌≡◌, ◌⊎◌, ℕ, ◌≤◌, List as Sequence, [], ◌∷◌, ◌++◌, length, map, take, IfOk, IfErr, OnErr};
-ghost use Rattle.tpm_model.specs.Events.{Event, command_of};
+ghost use Rattle.tpm_model.specs.Events.{Clean, Event, command_of};
 ghost use Rattle.tpm_model.specs.Respond.{respond};
 ghost use Rattle.tpm_model.specs.Rules.{HasRules};
 ghost use Rattle.tpm_model.specs.World.{World};
 ghost use Rattle.tpm_worlds.specs.CommandLists.{responses_to, state_after};
 ghost use Rattle.tpm_worlds.specs.EventLists.{AreFair, EachOpensByValue, Safe, world_after_all};
 ghost use Rattle.tpm_worlds.specs.SealedTie.{SealedTie};
+ghost use Rattle.tpm_worlds.specs.WholeEvents.{AreSoundEvents, FullTie};
 
 use pl_base::{List, Memory};
 use std::alloc::Global;
@@ -46,7 +47,8 @@ fn step_next(
 /// hangs together with the state, in which no two strings that were hashed have one digest): each Unseal of
 /// an object that the program bound to one value of one PCR answers the object's own bytes, and only where
 /// the PCR holds that value at that very step. The world afterwards hangs together with the state that is
-/// left.
+/// left; with its indices, the program's updates and what sessions read of them too, where no stranger
+/// presented a pin of a policy.
 ///
 /// # Errors
 ///
@@ -64,6 +66,9 @@ pub fn step_all(
         → AreFair events state.old w → Safe (world_after_all events state.old w) → EachOpensByValue events state.old w }
     ensures kept { IfOk result (λ _. (events : Sequence Event) (w : World) → map command_of events ≡ commands.now → SealedTie state.old w
         → AreFair events state.old w → SealedTie state.new (world_after_all events state.old w)) }
+    ensures whole { IfOk result (λ _. (events : Sequence Event) (w : World) → map command_of events ≡ commands.now → FullTie state.old w
+        → AreSoundEvents events state.old w → Clean (world_after_all events state.old w) → Safe (world_after_all events state.old w)
+        → FullTie state.new (world_after_all events state.old w)) }
 {
     // A method of the state tells its rules.
     let _pcrs = state.pcrs();

@@ -4,7 +4,7 @@ use Rattle.pcrlock_line.specs.Outcome.{Outcome, Gives}
 use Rattle.pcrlock_line.specs.Stopped.{StandsAmong}
 use Rattle.pcrlock_run.specs.Leaves.{Safe}
 use Rattle.pcrlock_run.proofs.Widened.{beside_tpm, beside_entropy, beside_files}
-use Rattle.pcrlock_run.proofs.Commands.{extends, enrolls, unseals, prints, lists, starts, by_outcome}
+use Rattle.pcrlock_run.proofs.Commands.{extends, enrolls, unseals, prints, lists, starts, logs, predicts, executes, by_outcome}
 use Rattle.pcrlock_run.proofs.command.command.Goals as goal
 
 pub returns-then-pcr-le23-clause-causes : goal.returns-then-pcr-le23-clause-causes
@@ -83,3 +83,42 @@ pub returns-in-TpmBoot-clause-stops : goal.returns-in-TpmBoot-clause-stops
 returns-in-TpmBoot-clause-stops g c = λ m tells. by_outcome _ _
     (λ (o : Outcome). IfErr c.boot.result (λ _. StandsAmong (g.F.Files.held c.boot.new.files) (g.T.Tpm.stored c.boot.new.tpm) o.stops))
     (starts c.args.state.now c.args.request.now _ _ _ _ m c.in-TpmBoot.is) (c.boot.ensures.stops _ m tells)
+
+pub returns-in-Log-clause-causes : goal.returns-in-Log-clause-causes
+returns-in-Log-clause-causes g c = beside_entropy _ _ _ _ _ c.print_log.result c.print_log.ensures.causes
+
+pub returns-in-Log-clause-told : goal.returns-in-Log-clause-told
+returns-in-Log-clause-told g c = λ m tells safe. by_outcome _ _
+    (λ (o : Outcome). IfOk c.print_log.result (λ (r : Reply). Gives (g.F.Files.held c.print_log.new.files) (g.T.Tpm.stored c.print_log.new.tpm) (g.E.Entropy.words c.args.entropy.now) r o))
+    (logs c.args.state.now c.args.request.now _ _ _ _ m c.in-Log.is) (c.print_log.ensures.told _ m tells)
+
+pub returns-in-Log-clause-stops : goal.returns-in-Log-clause-stops
+returns-in-Log-clause-stops g c = λ m tells. by_outcome _ _
+    (λ (o : Outcome). IfErr c.print_log.result (λ _. StandsAmong (g.F.Files.held c.print_log.new.files) (g.T.Tpm.stored c.print_log.new.tpm) o.stops))
+    (logs c.args.state.now c.args.request.now _ _ _ _ m c.in-Log.is) (c.print_log.ensures.stops _ m tells)
+
+pub returns-in-Predict-clause-causes : goal.returns-in-Predict-clause-causes
+returns-in-Predict-clause-causes g c = beside_entropy _ _ _ _ _ c.print_prediction.result c.print_prediction.ensures.causes
+
+pub returns-in-Predict-clause-told : goal.returns-in-Predict-clause-told
+returns-in-Predict-clause-told g c = λ m tells safe. by_outcome _ _
+    (λ (o : Outcome). IfOk c.print_prediction.result (λ (r : Reply). Gives (g.F.Files.held c.print_prediction.new.files) (g.T.Tpm.stored c.print_prediction.new.tpm) (g.E.Entropy.words c.args.entropy.now) r o))
+    (predicts c.args.state.now c.args.request.now _ _ _ _ _ _ _ m c.in-Predict.is) (c.print_prediction.ensures.told _ m tells)
+
+pub returns-in-Predict-clause-stops : goal.returns-in-Predict-clause-stops
+returns-in-Predict-clause-stops g c = λ m tells. by_outcome _ _
+    (λ (o : Outcome). IfErr c.print_prediction.result (λ _. StandsAmong (g.F.Files.held c.print_prediction.new.files) (g.T.Tpm.stored c.print_prediction.new.tpm) o.stops))
+    (predicts c.args.state.now c.args.request.now _ _ _ _ _ _ _ m c.in-Predict.is) (c.print_prediction.ensures.stops _ m tells)
+
+pub returns-in-TpmExec-clause-causes : goal.returns-in-TpmExec-clause-causes
+returns-in-TpmExec-clause-causes g c = beside_entropy _ _ _ _ _ c.execute.result c.execute.ensures.causes
+
+pub returns-in-TpmExec-clause-told : goal.returns-in-TpmExec-clause-told
+returns-in-TpmExec-clause-told g c = λ m tells safe. by_outcome _ _
+    (λ (o : Outcome). IfOk c.execute.result (λ (r : Reply). Gives (g.F.Files.held c.execute.new.files) (g.T.Tpm.stored c.execute.new.tpm) (g.E.Entropy.words c.args.entropy.now) r o))
+    (executes c.args.state.now c.args.request.now _ m c.in-TpmExec.is) (c.execute.ensures.told _ m tells)
+
+pub returns-in-TpmExec-clause-stops : goal.returns-in-TpmExec-clause-stops
+returns-in-TpmExec-clause-stops g c = λ m tells. by_outcome _ _
+    (λ (o : Outcome). IfErr c.execute.result (λ _. StandsAmong (g.F.Files.held c.execute.new.files) (g.T.Tpm.stored c.execute.new.tpm) o.stops))
+    (executes c.args.state.now c.args.request.now _ m c.in-TpmExec.is) (c.execute.ensures.stops _ m tells)

@@ -22,3 +22,8 @@ pub returns-in_ok-format-in-WrongBinding : goal.returns-in_ok-format-in-WrongBin
 unfolding answer_text
 returns-in_ok-format-in-WrongBinding c =
     rw (c.in-WrongBinding.is, c.in_ok-format-in-WrongBinding.ensures.ok) (simp append_assoc)
+
+pub returns-in_ok-format-in-NoDigest : goal.returns-in_ok-format-in-NoDigest
+unfolding answer_text
+returns-in_ok-format-in-NoDigest c =
+    rw (c.in-NoDigest.is, c.in_ok-format-in-NoDigest.ensures.ok, c.text-component.ensures, c.text-variant.ensures) (simp append_assoc)

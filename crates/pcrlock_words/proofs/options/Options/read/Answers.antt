@@ -4,7 +4,7 @@ use Rattle.clap.specs.Kinds.{HasKind}
 use Rattle.clap.specs.Words.{HasMatchesOf, app_of, fault_of, is_simple_and_free, kind_of}
 use Rattle.clap.proofs.WalkLemmas.{list_any-map}
 use Rattle.pcrlock_words.specs.declared.command.Command.{Command}
-use Rattle.pcrlock_words.specs.declared.command.Command.TheVariants.{Script, Log, Cel, ListComponents, Enroll, Unseal, TpmBoot, TpmExtend, TpmExec}
+use Rattle.pcrlock_words.specs.declared.command.Command.TheVariants.{Script, Log, Cel, ListComponents, Predict, Enroll, Unseal, TpmBoot, TpmExtend, TpmExec}
 use Rattle.pcrlock_words.specs.Commands.{options_for, options_of}
 use Rattle.pcrlock_words.specs.Options.{is_known}
 use Rattle.pcrlock_words.specs.Parser.{is_stray, parser_for, refusal_of}
@@ -20,6 +20,7 @@ named true Script = refl
 named true Log = refl
 named true Cel = refl
 named true ListComponents = refl
+named true Predict = refl
 named true Enroll = refl
 named true Unseal = refl
 named true TpmBoot = refl
@@ -29,6 +30,7 @@ named false Script = refl
 named false Log = refl
 named false Cel = refl
 named false ListComponents = refl
+named false Predict = refl
 named false Enroll = refl
 named false Unseal = refl
 named false TpmBoot = refl

@@ -1,0 +1,5 @@
+pub mod Rules
+pub mod Lists
+pub mod Steps
+pub mod Stands
+pub mod Kept

@@ -1,0 +1,4 @@
+pub mod Input
+pub mod Exec
+pub mod Running
+pub mod Worlds

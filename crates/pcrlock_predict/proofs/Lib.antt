@@ -1,0 +1,4 @@
+pub mod PcrReads
+pub mod Left
+pub mod Ended
+pub mod BegunValues

@@ -1,0 +1,12 @@
+//! The commands that compare what a machine logged with what its TPM holds: `log` prints the records
+//! and each PCR's replay beside its value, and `predict` the values that PCRs may have while the boot
+//! goes on. Both read the logs, the components and then the PCRs, and change nothing.
+#![tactic(auto)]
+
+mod inputs;
+mod logging;
+mod predicting;
+mod present;
+
+pub use crate::logging::log;
+pub use crate::predicting::predict;

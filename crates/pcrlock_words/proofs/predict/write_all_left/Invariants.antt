@@ -1,0 +1,7 @@
+use Rattle.std.proofs.Common.{◌≡◌, ◌++◌, take, flat_map, string_bytes}
+use Rattle.component_tree.specs.PlainTree.{plain}
+use Rattle.pcrlock_words.specs.PredictText.{left_text}
+use Rattle.pcrlock_words.proofs.predict.write_all_left.Given as goal
+
+abbrev pub invariant-loop-one : goal.invariant-loop-one
+invariant-loop-one l = string_bytes l.text ≡ string_bytes l.fn.text ++ flat_map (left_text (plain l.tree.components)) (take l.one-index l.left)

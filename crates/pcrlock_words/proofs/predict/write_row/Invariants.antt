@@ -1,0 +1,6 @@
+use Rattle.std.proofs.Common.{◌≡◌, ◌++◌, take, flat_map, string_bytes}
+use Rattle.pcrlock_words.specs.PredictText.{together_text}
+use Rattle.pcrlock_words.proofs.predict.write_row.Given as goal
+
+abbrev pub invariant-loop-values : goal.invariant-loop-values
+invariant-loop-values l = string_bytes l.text ≡ string_bytes l.fn.text ++ flat_map (together_text l.row.pcrs) (take l.values-index l.values-items)

@@ -1,0 +1,11 @@
+pub mod Parts
+pub mod Values
+pub mod Digests
+pub mod Verbs
+pub mod CommandLine
+pub mod File
+pub mod Walk
+pub mod Plain
+pub mod Left
+pub mod Answers
+pub mod Responses
