@@ -1,5 +1,5 @@
 -- `tpm-exec` in a run.
-use Rattle.std.proofs.Common.{◌≡◌, ℕ, List, [], ◌∷◌, ◌++◌, map, inl, inr, refl, sym, ap, ◌∙◌, append-nil, append_assoc}
+use Rattle.std.proofs.Common.{◌≡◌, ℕ, List, [], ◌∷◌, ◌++◌, map, inl, inr, sym, ap, ◌∙◌, append-nil, append_assoc}
 use Rattle.std.specs.Prelude.{Option, Result, Ok, Err}
 use Rattle.pl_base.specs.FileMap.{FileMap}
 use Rattle.tpm_model.specs.declared.command.Command.{Command}
@@ -13,7 +13,7 @@ use Rattle.tpm_worlds.proofs.Steady.{hashed_stays}
 use Rattle.tpm_device.specs.Stored.{Stored, Holds, TooLarge, Malformed, BadRule}
 use Rattle.pcrlock_words.specs.declared.answer.Answer.{Answer}
 use Rattle.pcrlock_line.specs.Begun.{by_device}
-use Rattle.pcrlock_line.specs.Machine.{Machine, Live, machine}
+use Rattle.pcrlock_line.specs.Machine.{Machine, Live}
 use Rattle.pcrlock_line.specs.Stopped.{StandsAt, StandsAmong}
 use Rattle.pcrlock_line.specs.Worlds.{IsTied, by_state}
 use Rattle.pcrlock_line.proofs.Devices.{stops_last}

@@ -1,10 +1,13 @@
 -- Parts of a text, taken off from the front.
-use Rattle.std.proofs.Common.{◌≡◌, ℕ, ◌+◌, ◌<◌, Bool, true, false, cond, List, [], ◌∷◌, ◌++◌, get_or, take, drop, Option, None, Some, refl, sym, ap, ◌∙◌, arith, add-one}
+use Rattle.std.proofs.Common.{◌≡◌, ℕ, ◌+◌, ◌<◌, Bool, true, false, cond, ltb, inl, inr, List, [], ◌∷◌, ◌++◌, length, get_or, take, drop, Option, None, Some, refl, sym, ap, ◌∙◌, arith, add-one}
 use Rattle.std.specs.Prelude.{◌==◌, position}
-use Rattle.std.specs.List.{All, onto_first, position_from}
+use Rattle.std.specs.List.{position_or_len, All, onto_first, position_from}
 use Rattle.std.proofs.lemmas.Iterator.Adapters.{position_from-zero}
 use Rattle.std.proofs.Math.Seq.{drop-cons}
 use Rattle.std.proofs.lemmas.List.{take-append-drop, get_or-take, get_or_default, length-take}
+use Rattle.std.proofs.lemmas.Bool.{cases_Bool, le-ltb, lt-ltb}
+use Rattle.std.proofs.lemmas.List.Sums.{position_or_len_is}
+use Rattle.memchr.specs.Find.{IsFirstByte, Nowhere, Passes, is_byte}
 use Rattle.std.proofs.lemmas.List.Quantifiers.{position-Some}
 use Rattle.std.proofs.lemmas.List.Splits.{slice_split_at}
 use Rattle.tpm_commands.specs.Parts.{parts_of, one_of}
@@ -59,3 +62,26 @@ none_from byte i (x ∷ text) e =
 -- where the byte isn't there, the text is the one part
 pub parts_alone : (byte : ℕ) (text : List ℕ) → position (λ b. b == byte) text ≡ None → parts_of byte text ≡ text ∷ []
 parts_alone byte text e = none_from byte 0 text (sym (position_from-zero (λ b. b == byte) text) ∙ e)
+
+-- ---- the first place
+
+not_there : (byte b : ℕ) → ((b == byte) ≡ true → ⊥) → (b == byte) ≡ false
+not_there byte b other =
+    elim (cases_Bool (b == byte)) [
+      | inl same ↦ absurd (other same)
+      | inr differs ↦ differs
+    ]
+
+none_up_to : (byte : ℕ) (text : List ℕ) (end : ℕ) → Nowhere (Passes (is_byte byte) text) 0 end → (k : ℕ) → k < end → (get_or text k 0 == byte) ≡ false
+none_up_to byte text end nowhere k below = not_there byte (get_or text k 0) (nowhere k (omega arith) below)
+
+-- the first byte that a search finds is at the first place
+pub first_place : (byte : ℕ) (text : List ℕ) (found : Option ℕ) → IsFirstByte (is_byte byte) text found → found ≡ position (λ b. b == byte) text
+first_place byte text (Some k) h =
+    let at : position_or_len (λ b. b == byte) text ≡ k = position_or_len_is (λ b. b == byte) text k 0 (omega (arith, h.0.high)) (none_up_to byte text k h.0.before) (λ below. h.1) in
+    let within : ltb k (length text) ≡ true = lt-ltb k (length text) h.0.high in
+    sym (rw (at, within) refl)
+first_place byte text None h =
+    let at : position_or_len (λ b. b == byte) text ≡ length text = position_or_len_is (λ b. b == byte) text (length text) 0 (omega arith) (none_up_to byte text (length text) h) (λ below. absurd (omega (arith, below))) in
+    let past : ltb (length text) (length text) ≡ false = le-ltb (length text) (length text) (omega arith) in
+    sym (rw (at, past) refl)

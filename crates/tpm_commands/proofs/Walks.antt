@@ -9,9 +9,7 @@ use Rattle.std.proofs.lemmas.List.{nil_from_length}
 use Rattle.tpm_model.specs.declared.command.Command.{Command}
 use Rattle.tpm_commands.specs.declared.error.CommandsError.{CommandsError}
 use Rattle.tpm_commands.specs.declared.error.CommandsError.TheVariants.{BadLine, TooMany, Memory}
-use Rattle.tpm_commands.specs.declared.line.Line.{Line}
-use Rattle.tpm_commands.specs.declared.line.Line.TheVariants as line
-use Rattle.tpm_commands.specs.File.{command_in, commands_by, commands_of, is_bad, line_of, line_limit, lines_of, without_last_empty}
+use Rattle.tpm_commands.specs.File.{Line, PassedOver, Spelled, Bad, command_in, commands_by, commands_of, is_bad, line_of, line_limit, lines_of, without_last_empty}
 use Rattle.tpm_commands.specs.Answers.{Refuses}
 use Rattle.tpm_commands.specs.Parts.{parts_of}
 use Rattle.tpm_commands.specs.Walk.{◌>>=◌, commands_from, taken}
@@ -46,14 +44,14 @@ step_is : (place more : ℕ) (before : List Command) (text : List ℕ) (lines : 
     → line_of text ≡ kind
     → ((next : List Command) → commands_from (place + 1) more next lines ≡ by_place more next lines later)
     → (taken place before kind >>= λ next. commands_from (place + 1) more next lines) ≡ by_place (suc more) before (text ∷ lines) (cond (is_bad kind) (Some place) later)
-step_is place more before text lines line.Bad later is rest = refl
-step_is place more before text lines line.PassedOver later is rest =
+step_is place more before text lines Bad later is rest = refl
+step_is place more before text lines PassedOver later is rest =
     let none : spelled_in text ≡ None = ap command_in is in
     rest before
     ∙ ap (λ b. by_place more b lines later) (sym (append-nil before))
     ∙ ap (λ found. by_place more (before ++ option_to_list found) lines later) (sym none)
     ∙ next_place more before text lines later
-step_is place more before text lines (line.Spelled command) later is rest =
+step_is place more before text lines (Spelled command) later is rest =
     let one : spelled_in text ≡ Some command = ap command_in is in
     rest (before ++ command ∷ [])
     ∙ ap (λ found. by_place more (before ++ option_to_list found) lines later) (sym one)

@@ -1,12 +1,10 @@
--- A file of commands, one a line.
+-- A file of commands, one a
 use Rattle.std.specs.Prelude.{ℕ, ◌==◌, Bool, true, false, nat_lt, if◌then◌else◌, List, [], ◌∷◌, take, length, position, Option, Some, None, Result, Ok, Err}
 use Rattle.std.specs.List.{filter_map}
 use Rattle.std.specs.Str.{is_utf8}
 use Rattle.tpm_model.specs.declared.command.Command.{Command}
 use Rattle.tpm_commands.specs.declared.error.CommandsError.{CommandsError}
 use Rattle.tpm_commands.specs.declared.error.CommandsError.TheVariants.{BadLine, TooMany}
-use Rattle.tpm_commands.specs.declared.line.Line.{Line}
-use Rattle.tpm_commands.specs.declared.line.Line.TheVariants as line
 use Rattle.tpm_commands.specs.CommandLine.{command_of}
 use Rattle.tpm_commands.specs.Parts.{parts_of}
 
@@ -25,26 +23,32 @@ abbrev pub is_passed_over : List ℕ → Bool
 is_passed_over [] = true
 is_passed_over (first ∷ rest) = first == 35
 
+-- what a line is: passed over, one that spells a command, or neither
+pub data Line : Type 0 where
+  PassedOver : Line
+  Spelled : Command → Line
+  Bad : Line
+
 -- a line of a command, or one that spells none
 abbrev pub spelled : Option Command → Line
-spelled None = line.Bad
-spelled (Some command) = line.Spelled command
+spelled None = Bad
+spelled (Some command) = Spelled command
 
 -- what a line is; one that is passed over is UTF-8 nevertheless
 unfoldable pub line_of : List ℕ → Line
 line_of text =
-    if is_passed_over text then (if is_utf8 text then line.PassedOver else line.Bad)
+    if is_passed_over text then (if is_utf8 text then PassedOver else Bad)
     else spelled (command_of text)
 
 abbrev pub is_bad : Line → Bool
-is_bad line.Bad = true
-is_bad line.PassedOver = false
-is_bad (line.Spelled command) = false
+is_bad Bad = true
+is_bad PassedOver = false
+is_bad (Spelled command) = false
 
 abbrev pub command_in : Line → Option Command
-command_in line.Bad = None
-command_in line.PassedOver = None
-command_in (line.Spelled command) = Some command
+command_in Bad = None
+command_in PassedOver = None
+command_in (Spelled command) = Some command
 
 -- how many lines a file may have, those that are passed over among them
 abbrev pub line_limit : ℕ

@@ -3,9 +3,7 @@ use Rattle.std.specs.Prelude.{ℕ, zero, suc, ◌+◌, List, [], ◌∷◌, ◌+
 use Rattle.tpm_model.specs.declared.command.Command.{Command}
 use Rattle.tpm_commands.specs.declared.error.CommandsError.{CommandsError}
 use Rattle.tpm_commands.specs.declared.error.CommandsError.TheVariants.{BadLine, TooMany}
-use Rattle.tpm_commands.specs.declared.line.Line.{Line}
-use Rattle.tpm_commands.specs.declared.line.Line.TheVariants as line
-use Rattle.tpm_commands.specs.File.{line_of}
+use Rattle.tpm_commands.specs.File.{Line, PassedOver, Spelled, Bad, line_of}
 
 infixl 10 ◌>>=◌
 abbrev pub ◌>>=◌ : {A B : Type 0} → Result A CommandsError → (A → Result B CommandsError) → Result B CommandsError
@@ -14,9 +12,9 @@ abbrev pub ◌>>=◌ : {A B : Type 0} → Result A CommandsError → (A → Resu
 
 -- the commands before and that of a line, which has this place in the file
 abbrev pub taken : ℕ → List Command → Line → Result (List Command) CommandsError
-taken place before line.PassedOver = Ok before
-taken place before (line.Spelled command) = Ok (before ++ command ∷ [])
-taken place before line.Bad = Err (BadLine place)
+taken place before PassedOver = Ok before
+taken place before (Spelled command) = Ok (before ++ command ∷ [])
+taken place before Bad = Err (BadLine place)
 
 -- the commands before, and those of the lines, of which there may be this many more; the first of them
 -- has this place in the file

@@ -1,12 +1,13 @@
 //! A file of commands.
 ghost use Rattle.std.specs.Prelude.{◌≡◌, [], ◌∷◌, ◌++◌, OnOk};
 ghost use Rattle.tpm_commands.specs.Answers.{Gives};
-ghost use Rattle.tpm_commands.specs.File.{commands_of, lines_of};
+ghost use Rattle.tpm_commands.specs.File.{commands_of, line_of, lines_of, spelled};
 ghost use Rattle.tpm_commands.specs.Walk.{commands_from, taken};
 
-use crate::{CommandsError, Line, next_line, read_line};
+use crate::{CommandsError, next_line, passes_over, read_command};
 use pl_base::{List, Memory};
 use std::alloc::Global;
+use std::str;
 use tpm_model::Command;
 
 // How many lines a file may have.
@@ -19,15 +20,32 @@ fn append<T: Copy>(items: &mut List<T>, item: &T) -> Result<(), Memory>
     items.push(*item)
 }
 
-// Puts the command of a line, which has this place in the file, at the end, if it spells one.
-fn take_line(commands: &mut List<Command>, place: u32, line: &Line) -> Result<(), CommandsError>
-    ensures { Gives (λ _. commands.new) result (taken place commands.old line.now) }
+// Puts the command that a line spells at the end; the line has this place in the file.
+fn take_command(
+    commands: &mut List<Command>,
+    place: u32,
+    found: &Option<Command>,
+) -> Result<(), CommandsError>
+    ensures { Gives (λ _. commands.new) result (taken place commands.old (spelled found.now)) }
 {
-    match line {
-        Line::PassedOver => Ok(()),
-        Line::Spelled(command) => Ok(append(commands, command)?),
-        Line::Bad => Err(CommandsError::BadLine(place)),
+    match found {
+        Some(command) => Ok(append(commands, command)?),
+        None => Err(CommandsError::BadLine(place)),
     }
+}
+
+// Puts the command of a line at the end, if it isn't passed over; it has this place in the file.
+#[tactic(auto, unfolding(crate::specs::File::line_of))]
+fn take_line(commands: &mut List<Command>, place: u32, line: &[u8]) -> Result<(), CommandsError>
+    ensures { Gives (λ _. commands.new) result (taken place commands.old (line_of line.now)) }
+{
+    if passes_over(line) {
+        return match str::from_utf8(line) {
+            Ok(_) => Ok(()),
+            Err(_) => Err(CommandsError::BadLine(place)),
+        };
+    }
+    take_command(commands, place, &read_command(line))
 }
 
 // The commands of a text's lines, of which there may be this many.
@@ -41,7 +59,7 @@ fn read_lines(alloc: Global, text: &[u8], limit: u32) -> Result<List<Command>, C
             return Ok(commands);
         }
         let (line, behind) = next_line(rest);
-        match take_line(&mut commands, place, &read_line(line)) {
+        match take_line(&mut commands, place, line) {
             Ok(()) => rest = behind,
             Err(error) => return Err(error),
         }

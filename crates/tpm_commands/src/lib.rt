@@ -19,7 +19,7 @@ mod words;
 pub use crate::command::read_command;
 pub use crate::error::CommandsError;
 pub use crate::file::read_commands;
-pub use crate::line::{Line, next_line, passes_over, read_line};
+pub use crate::line::{next_line, passes_over};
 pub use crate::parts::cut;
 pub use crate::response::{response_line, write_response};
 pub use crate::values::{read_number, read_pin};

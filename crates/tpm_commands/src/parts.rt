@@ -2,11 +2,13 @@ ghost use Rattle.std.specs.Prelude.{◌≡◌, ◌==◌, ◌<◌, ◌∷◌, len
 ghost use Rattle.std.specs.Option.{ForSome};
 ghost use Rattle.tpm_commands.specs.Parts.{parts_of, parts_behind};
 
+use memchr::memchr;
+
 // The first place of a byte.
 fn place_of(text: &[u8], byte: u8) -> Option<usize>
     ensures { result ≡ position (λ b. b == byte) text.now }
 {
-    text.iter().position(|b| *b == byte)
+    memchr(byte, text)
 }
 
 /// A text up to the first place of a byte, and what stands behind that place, if the byte is there.

@@ -12,3 +12,4 @@ pub mod Lengths
 pub mod Shapes
 pub mod Decoded
 pub mod Stores
+pub mod Looks

@@ -8,3 +8,4 @@ pub mod Layout
 pub mod Spelling
 pub mod Decoding
 pub mod Storing
+pub mod Looking

@@ -13,6 +13,7 @@ ghost use Rattle.tpm_device.specs.Stored.{Stored, Holds, BeginGives, ExecuteGive
 ghost use Rattle.tpm_state.specs.declared.version.Version.TheVariants.{Two};
 ghost use Rattle.tpm_state.specs.Layout.{text_of};
 ghost use Rattle.tpm_state.specs.Decoding.{state_of};
+ghost use Rattle.tpm_state.specs.Looking.{looks_only};
 ghost use Rattle.tpm_state.specs.Storing.{all_banks, stored_as, stored_by, stored_in, StateGives, StoreLeaves, StoresText};
 
 use crate::kept::Kept;
@@ -129,6 +130,79 @@ fn store<F: Files>(
     files.replace(alloc, path, next.text())
 }
 
+/// Whether a command only looks at the state.
+fn is_look(command: &Command) -> bool
+    ensures { result ≡ looks_only command.now }
+{
+    matches!(
+        command,
+        Command::PcrRead { .. }
+            | Command::PolicyGetDigest { .. }
+            | Command::NvRead { .. }
+            | Command::NvReadPublic { .. }
+            | Command::Unseal { .. }
+    )
+}
+
+impl<F: Files> FileTpm<F> {
+    /// Executes a command that only looks at the live state. No file is touched.
+    fn look(&mut self, alloc: Global, command: &Command) -> Result<Response, ExecError>
+        requires ready { is_some self.old.live ≡ true }
+        requires look { looks_only command.now ≡ true }
+        ensures answered { (s : Parts) → self.old.live ≡ Some s → IfOk result (λ answer. answer ≡ (respond command.now s).0) }
+        ensures fitting { IfOk result (λ answer. fits command.now answer ≡ true) }
+        ensures memory { IfErr result (λ error. error ≡ ExecError.Memory) }
+        ensures live { self.new.live ≡ self.old.live }
+        ensures files { self.new.files ≡ self.old.files }
+        ensures path { self.new.path ≡ self.old.path }
+    {
+        let Some(live) = &mut self.live else {
+            unreachable!()
+        };
+        match live.look(alloc, command) {
+            Ok(response) => Ok(response),
+            Err(_) => Err(ExecError::Memory),
+        }
+    }
+
+    /// Executes a command on a copy of the live state, and stores the next state where it is another.
+    fn change(&mut self, alloc: Global, command: &Command) -> Result<Response, ExecError>
+        requires { is_some self.old.live ≡ true }
+        ensures cause { HasCause (F.faults self.old.files) (F.faults self.new.files) (result ≡ Err ExecError.Failed) }
+        ensures fitting { IfOk result (λ answer. fits command.now answer ≡ true) }
+        ensures readiness { is_some self.new.live ≡ stays_ready result }
+        ensures told { (s : Parts) → self.old.live ≡ Some s → ExecuteGives command.now s result (is_some self.new.live) self.new.live }
+        ensures rules { (s : Parts) → self.old.live ≡ Some s → HasRules s → IfSome self.new.live HasRules }
+        ensures stored { (s : Parts) → self.old.live ≡ Some s → stored_in (F.held self.old.files) self.old.path ≡ Some (Holds s) → ExecuteStores command.now s result (stored_in (F.held self.new.files) self.new.path) }
+        // A command that leaves an equal state writes nothing, and the TPM stays in its file.
+        ensures quiet { (s : Parts) → self.old.live ≡ Some s → (respond command.now s).1 ≡ s → F.held self.new.files ≡ F.held self.old.files }
+        // Else the file holds the text of the next state in version 2; no other file changes.
+        ensures files { (s : Parts) (map : FileMap) → self.old.live ≡ Some s → F.held self.old.files ≡ Some map → StoresText map self.old.path s (respond command.now s).1 result (F.held self.new.files) }
+        ensures path { self.new.path ≡ self.old.path }
+    {
+        let Some(live) = &self.live else {
+            unreachable!()
+        };
+        let Ok((response, next)) = next_state(alloc, live.state(), command) else {
+            return Err(ExecError::Memory);
+        };
+        if live.is_same(&next) {
+            return Ok(response);
+        }
+        match store(&mut self.files, alloc, self.path.text(), &next) {
+            Ok(()) => {
+                self.live = Some(next);
+                Ok(response)
+            }
+            Err(ReplaceError::Failed) => {
+                self.live = None;
+                Err(ExecError::Failed)
+            }
+            Err(ReplaceError::Memory) => Err(ExecError::Memory),
+        }
+    }
+}
+
 impl<F: Files> Tpm for FileTpm<F> {
     ghost live = { λ tpm. tpm.live };
 
@@ -175,25 +249,10 @@ impl<F: Files> Tpm for FileTpm<F> {
         ensures files { (s : Parts) (map : FileMap) → self.old.live ≡ Some s → F.held self.old.files ≡ Some map → StoresText map self.old.path s (respond command.now s).1 result (F.held self.new.files) }
         ensures path { self.new.path ≡ self.old.path }
     {
-        let Some(live) = &self.live else {
-            unreachable!()
-        };
-        let Ok((response, next)) = next_state(alloc, live.state(), command) else {
-            return Err(ExecError::Memory);
-        };
-        if live.is_same(&next) {
-            return Ok(response);
-        }
-        match store(&mut self.files, alloc, self.path.text(), &next) {
-            Ok(()) => {
-                self.live = Some(next);
-                Ok(response)
-            }
-            Err(ReplaceError::Failed) => {
-                self.live = None;
-                Err(ExecError::Failed)
-            }
-            Err(ReplaceError::Memory) => Err(ExecError::Memory),
+        if is_look(command) {
+            self.look(alloc, command)
+        } else {
+            self.change(alloc, command)
         }
     }
 }

@@ -1,6 +1,6 @@
-use Rattle.std.proofs.Common.{[], ap, sym, ◌∙◌}
+use Rattle.std.proofs.Common.{[], sym, ◌∙◌}
 use Rattle.tpm_commands.specs.File.{lines_of}
-use Rattle.tpm_commands.specs.Walk.{commands_from, taken}
+use Rattle.tpm_commands.specs.Walk.{commands_from}
 use Rattle.tpm_commands.proofs.Walks.{walk_done, walk_ends, walk_on, walk_too_many, some_line}
 use Rattle.tpm_commands.proofs.file.read_lines.Goals as goal
 
@@ -11,13 +11,13 @@ returns-then-is_empty c =
 pub returns-in-Err : goal.returns-in-Err
 returns-in-Err c =
     walk_ends c.in-Err.error c.loop-place.place c.args.limit c.loop-place.commands (lines_of c.loop-place.rest.now) c.next_line.result.0.now (lines_of c.next_line.result.1.now)
-    (commands_from 0 c.args.limit [] (lines_of c.args.text.now)) c.loop-place-test.true c.next_line.ensures.lines c.loop-place.invariant (rw c.read_line.ensures at c.in-Err.ensures)
+    (commands_from 0 c.args.limit [] (lines_of c.args.text.now)) c.loop-place-test.true c.next_line.ensures.lines c.loop-place.invariant c.in-Err.ensures
 
 pub loop-place-preserved : goal.loop-place-preserved
 loop-place-preserved c =
     walk_on c.loop-place.place c.args.limit c.loop-place.commands c.take_line.new.commands (lines_of c.loop-place.rest.now) c.next_line.result.0.now (lines_of c.next_line.result.1.now)
     (commands_from 0 c.args.limit [] (lines_of c.args.text.now)) c.loop-place-test.true c.next_line.ensures.lines c.loop-place.invariant
-    (ap (taken c.loop-place.place c.loop-place.commands) (sym c.read_line.ensures) ∙ c.in-Ok.ensures)
+    c.in-Ok.ensures
 
 pub returns-then-is_empty-2 : goal.returns-then-is_empty-2
 returns-then-is_empty-2 c =

@@ -3,7 +3,7 @@ use Rattle.std.specs.Str.{is_utf8}
 use Rattle.std.proofs.lemmas.Str.{is_utf8-from_IsUtf8}
 use Rattle.tpm_commands.specs.File.{is_passed_over, line_of}
 use Rattle.tpm_commands.proofs.Utf8.{not_utf8}
-use Rattle.tpm_commands.proofs.line.read_line.Goals as goal
+use Rattle.tpm_commands.proofs.file.take_line.Goals as goal
 
 pub returns-in-Ok : goal.returns-in-Ok
 unfolding line_of
