@@ -2,6 +2,12 @@
 #![tactic(auto)]
 
 #[cfg(test)]
+mod booting;
+#[cfg(test)]
 mod faults;
 #[cfg(test)]
+mod harness;
+#[cfg(test)]
 mod scripts;
+#[cfg(test)]
+mod sealing;
