@@ -4,10 +4,16 @@
 #[cfg(test)]
 mod booting;
 #[cfg(test)]
+mod commands;
+#[cfg(test)]
 mod faults;
 #[cfg(test)]
 mod harness;
 #[cfg(test)]
+mod keys;
+#[cfg(test)]
 mod scripts;
 #[cfg(test)]
 mod sealing;
+#[cfg(test)]
+mod tpm_lines;
