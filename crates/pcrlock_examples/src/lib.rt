@@ -12,6 +12,8 @@ mod harness;
 #[cfg(test)]
 mod keys;
 #[cfg(test)]
+mod predictions;
+#[cfg(test)]
 mod scripts;
 #[cfg(test)]
 mod sealing;
