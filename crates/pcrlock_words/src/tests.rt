@@ -1,11 +1,10 @@
 //! What no clause says: printed texts and spelled requests, each public call with ample memory.
 use crate::{
     Answer, Place, Request, WordsError, answer_line, components_text, enrolled_line, key_line,
-    log_text, predict_text, read_words, records_line, split_line, status_line,
+    predict_text, read_words, records_line, split_line, status_line,
 };
 use component_tree::{Tree, load_tree};
-use hash_bank::{Bank, Digest, Digests};
-use pcr_replay::{LogRecord, Origin};
+use hash_bank::{Bank, Digest};
 use pl_base::{List, MemFiles, Memory, Name, Small};
 use policy_digest::{Row, Table, Values};
 use predictor::{Cause, LeftOut, Protection};
@@ -738,19 +737,6 @@ const KERNEL: &str = "c65a0fb7e74ffd2c9fc3a0f9aacb0f6a24b0a68b";
 // What PCR 7 holds in SHA-1 after two extends by the hash of `kernel`.
 const SEVEN: &str = "10ced7d081a9ad94f6284432109eb050c59747b5";
 
-// Records of a log: who measured it, the PCR, and its digest in SHA-1.
-const MEASURED: [(Origin, u8, Option<&str>); 9] = [
-    (Origin::Firmware(4), 4, Some(ABC)),
-    (Origin::Firmware(3), 4, Some(KERNEL)),
-    (Origin::Firmware(5), 6, None),
-    (Origin::Firmware(0xd), 11, Some(ABC)),
-    (Origin::Firmware(0x80000003), 4, Some(ABC)),
-    (Origin::Firmware(0x80000007), 4, Some(KERNEL)),
-    (Origin::Firmware(0x800000e0), 7, Some(KERNEL)),
-    (Origin::Firmware(0x8000000a), 7, Some(KERNEL)),
-    (Origin::User, 11, Some(KERNEL)),
-];
-
 // What `log` prints of them in SHA-1, where the TPM was started at locality 3, PCR 4 has the hash of `abc`,
 // PCR 7 its replay, and each other PCR zeros.
 const LOG_LINES: [&str; 34] = [
@@ -811,37 +797,6 @@ fn digest_of(digits: &str) -> Result<Digest, Fail> {
     Ok(Digest::from_hex(Bank::Sha1, digits)?)
 }
 
-// The records of the log.
-fn measured_records(alloc: Global) -> Result<List<LogRecord>, Fail> {
-    let mut list = List::new(alloc);
-    for (origin, pcr, digits) in MEASURED.iter() {
-        let sha1 = match digits {
-            Some(digits) => Some(digest_of(digits)?),
-            None => None,
-        };
-        let pcr = (*pcr).min(23);
-        list.push(LogRecord {
-            origin: *origin,
-            pcr,
-            digests: Digests {
-                sha1,
-                sha256: None,
-                sha384: None,
-                sha512: None,
-            },
-        })?;
-    }
-    Ok(list)
-}
-
-// The present values of the PCRs.
-fn present_values() -> Result<[Digest; 24], Fail> {
-    let mut values = [Digest::zeros(Bank::Sha1); 24];
-    values[4] = digest_of(ABC)?;
-    values[7] = digest_of(SEVEN)?;
-    Ok(values)
-}
-
 // The text has these lines.
 fn check_lines(
     rt: &(impl Abort + AllocGlobal),
@@ -855,16 +810,6 @@ fn check_lines(
     }
     assert_eq!(rt; str::from_utf8(text)?, all.as_str());
     Ok(())
-}
-
-#[test]
-fn a_log_is_printed(rt: HostRuntime) -> Result<(), Fail> {
-    let alloc = rt.alloc();
-    let list = measured_records(alloc)?;
-    let tree = two_components(alloc)?;
-    let now = present_values()?;
-    let text = log_text(alloc, list.as_slice(), &tree, Bank::Sha1, 3, &now, 2)?;
-    check_lines(&rt, text.as_slice(), LOG_LINES.as_slice())
 }
 
 // A row of these PCRs, with lists of values in SHA-1 each of which commas part.
