@@ -8,7 +8,7 @@ use Rattle.tpm_model.proofs.KeepsIndices.{keeps-nv_define, keeps-nv_undefine, ke
 use Rattle.tpm_model.proofs.KeepsPolicies.{keeps-policy_authorize_nv, keeps-policy_or}
 use Rattle.tpm_model.proofs.KeepsRules.{Keeps, keeps-evict, keeps-flush_session, keeps-pcr_extend, keeps-policy_pcr, keeps-restart, keeps-seal, keeps-start_session}
 use Rattle.tpm_worlds.proofs.Cases.{by_nv_read, by_nv_read_public, by_pcr_read, by_policy_get_digest, by_unseal}
-use Rattle.pcrlock_exec.specs.Running.{HasSizes}
+use Rattle.pcrlock_exec.specs.Sending.{HasSizes}
 
 pub rules_after : (c : Command) (s : Parts) → HasSizes c → HasRules s → HasRules (respond c s).1
 rules_after (command.Restart locality banks) s sizes h = keeps-restart locality banks s h

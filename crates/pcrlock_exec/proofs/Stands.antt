@@ -17,7 +17,8 @@ use Rattle.pcrlock_line.proofs.Composed.{on_files, on_tpm, stops, then, then_sto
 use Rattle.pcrlock_line.proofs.Devices.{stands_live, stops_first}
 use Rattle.pcrlock_line.proofs.Standing.{holds_same}
 use Rattle.pcrlock_exec.specs.Exec.{at_state, exec_outcome, exec_states, executed_line}
-use Rattle.pcrlock_exec.specs.Running.{IsPartWay, Keeps}
+use Rattle.pcrlock_exec.specs.Sending.{IsPartWay}
+use Rattle.pcrlock_line.specs.Running.{Keeps}
 
 -- the machine at a state that is stored
 stands_at : (held : Option FileMap) (kept : Option Stored) (m : Live) (s : Parts) → held ≡ Some m.files → Keeps kept s → StandsAt held kept (at_state m s)

@@ -22,7 +22,8 @@ use Rattle.pcrlock_line.specs.declared.stop.Stop.TheVariants.{Memory}
 use Rattle.pcrlock_line.specs.Worlds.{IsTiedTo}
 use Rattle.pcrlock_line.proofs.Composed.{memory}
 use Rattle.pcrlock_exec.specs.Exec.{events_of, exec_world}
-use Rattle.pcrlock_exec.specs.Running.{HasSizes, IsPartWay, Keeps, Runs}
+use Rattle.pcrlock_exec.specs.Sending.{HasSizes, IsPartWay}
+use Rattle.pcrlock_line.specs.Running.{Keeps, Runs}
 use Rattle.pcrlock_exec.proofs.Lists.{commands_back}
 use Rattle.pcrlock_exec.proofs.Rules.{rules_after}
 

@@ -1,4 +1,4 @@
 pub mod Input
 pub mod Exec
-pub mod Running
+pub mod Sending
 pub mod Worlds

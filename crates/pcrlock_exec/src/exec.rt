@@ -19,7 +19,8 @@ ghost use Rattle.pcrlock_line.specs.Worlds.{IsTied};
 ghost use Rattle.pcrlock_line.specs.declared.stop.Stop.TheVariants.{Memory as OutOfMemory};
 ghost use Rattle.pcrlock_exec.specs.Exec.{events_of, exec_strings, exec_text, exec_world, executed_line, tpm_exec_line};
 ghost use Rattle.pcrlock_exec.specs.Worlds.{tpm_exec_world};
-ghost use Rattle.pcrlock_exec.specs.Running.{HasSizes, IsPartWay, Keeps, Runs};
+ghost use Rattle.pcrlock_exec.specs.Sending.{HasSizes, IsPartWay};
+ghost use Rattle.pcrlock_line.specs.Running.{Keeps, Runs};
 
 use crate::{Input, find_commands};
 use pcrlock_line::{Reply, Stop, ask, ready};

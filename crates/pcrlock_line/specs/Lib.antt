@@ -1,5 +1,7 @@
 pub mod Machine
 pub mod Outcome
+pub mod Printing
+pub mod Running
 pub mod Causes
 pub mod Content
 pub mod Asked

@@ -8,7 +8,7 @@ use Rattle.pcrlock_words.specs.declared.answer.Answer.{Answer}
 use Rattle.pcrlock_line.specs.Begun.{state_refusal}
 use Rattle.pcrlock_line.specs.Machine.{HasStoredRules}
 use Rattle.pcrlock_predict.specs.Present.{present_of, values_at, values_or_absent}
-use Rattle.pcrlock_predict.specs.Running.{Runs}
+use Rattle.pcrlock_line.specs.Running.{Runs}
 
 -- a state is stored
 pub values_begun : (kept : Stored) (path : List ℕ) (bank : Bank) (asked : ℕ) (P : Result (List (List ℕ)) Answer → Type 0) → None ≡ state_refusal path kept

@@ -13,7 +13,7 @@ use Rattle.pcrlock_line.specs.Machine.{Machine, Tells}
 use Rattle.pcrlock_line.specs.Outcome.{Refused, Gives, ending_of}
 use Rattle.pcrlock_line.proofs.Composed.{then, then_stops, on_tpm}
 use Rattle.pcrlock_input.specs.Answering.{◌>>=◌}
-use Rattle.pcrlock_predict.specs.Printed.{printed, printed_line}
+use Rattle.pcrlock_line.specs.Printing.{printed, printed_line}
 
 -- what is made of an earlier step's result has its causes, if it stops for want of memory alone
 pub without_fault : {A B : Type 0} (a b : Counts) (first : Result A Stop) (second : Result B Stop) → HasCauses a b first → IfErr second (λ s. s ≡ stop.Memory) → HasCauses a b second

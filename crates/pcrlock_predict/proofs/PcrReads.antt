@@ -14,7 +14,7 @@ use Rattle.tpm_device.specs.Stored.{Stored, Holds}
 use Rattle.pcrlock_line.specs.declared.stop.Stop.{Stop}
 use Rattle.pcrlock_line.specs.declared.stop.Stop.TheVariants as stop
 use Rattle.pcrlock_predict.specs.Present.{reading_of}
-use Rattle.pcrlock_predict.specs.Running.{Runs}
+use Rattle.pcrlock_line.specs.Running.{Runs}
 
 -- a PCR's read answers its value, or that its bank is absent
 read_is : (bank : Bank) (pcr : ℕ) (s : Parts) → pcr ≤ 23 → pcr_read bank pcr s ≡ value_or_absent bank (pcr_of s.banks s.pcrs bank pcr) s

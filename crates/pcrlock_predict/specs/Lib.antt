@@ -1,6 +1,4 @@
-pub mod Printed
 pub mod Inputs
-pub mod Running
 pub mod Present
 pub mod Log
 pub mod Predict

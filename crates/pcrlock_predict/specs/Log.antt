@@ -10,7 +10,7 @@ use Rattle.pcrlock_input.specs.Answering.{◌>>=◌}
 use Rattle.pcrlock_input.specs.Logs.{locality_in, rows_of}
 use Rattle.pcrlock_predict.specs.Inputs.{PlainInputs, inputs_of}
 use Rattle.pcrlock_predict.specs.Present.{values_at}
-use Rattle.pcrlock_predict.specs.Printed.{printed_line}
+use Rattle.pcrlock_line.specs.Printing.{printed_line}
 
 -- the mask of all 24 PCRs
 abbrev pub all_pcrs : ℕ

@@ -17,7 +17,7 @@ use Rattle.pcrlock_input.specs.Answering.{◌>>=◌}
 use Rattle.pcrlock_input.specs.Logs.{locality_in, rows_of}
 use Rattle.pcrlock_predict.specs.Inputs.{PlainInputs, inputs_of}
 use Rattle.pcrlock_predict.specs.Present.{values_at}
-use Rattle.pcrlock_predict.specs.Printed.{printed_line}
+use Rattle.pcrlock_line.specs.Printing.{printed_line}
 
 -- a component's id and its variants, and a variant's name, where there is one
 abbrev pub id_of : Option PlainComponent → List ℕ

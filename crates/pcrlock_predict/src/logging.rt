@@ -8,7 +8,7 @@ ghost use Rattle.pcrlock_input.specs.Logs.{AreRead};
 ghost use Rattle.pcrlock_predict.specs.Inputs.{plain_inputs};
 ghost use Rattle.pcrlock_predict.specs.Log.{logged, logged_at, log_line};
 ghost use Rattle.pcrlock_predict.specs.Present.{AreValues};
-ghost use Rattle.pcrlock_predict.specs.Printed.{printed};
+ghost use Rattle.pcrlock_line.specs.Printing.{printed};
 
 use crate::inputs::{Inputs, read_inputs};
 use crate::present::read_values;

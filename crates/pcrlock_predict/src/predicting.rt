@@ -12,7 +12,7 @@ ghost use Rattle.pcrlock_input.specs.Logs.{AreRead, locality_in, plain_logs, row
 ghost use Rattle.pcrlock_predict.specs.Inputs.{plain_inputs};
 ghost use Rattle.pcrlock_predict.specs.Predict.{id_of, name_of, variants_of, no_digest as no_digest_at, protect_answer, protection_text, predicted, predicted_at, predict_line};
 ghost use Rattle.pcrlock_predict.specs.Present.{AreValues};
-ghost use Rattle.pcrlock_predict.specs.Printed.{printed};
+ghost use Rattle.pcrlock_line.specs.Printing.{printed};
 
 use crate::inputs::{Inputs, read_inputs};
 use crate::present::read_values;

@@ -7,7 +7,7 @@ ghost use Rattle.tpm_device.specs.Stored.{Stored, Holds};
 ghost use Rattle.pcrlock_line.specs.Causes.{HasCauses};
 ghost use Rattle.pcrlock_line.specs.Machine.{HasStoredRules};
 ghost use Rattle.pcrlock_predict.specs.Present.{AreValues, asked_value as value_asked, present_of, reading_of, values_at, values_or_absent};
-ghost use Rattle.pcrlock_predict.specs.Running.{Runs};
+ghost use Rattle.pcrlock_line.specs.Running.{Runs};
 
 use hash_bank::{Bank, Digest};
 use pcrlock_line::{Stop, ask, ready};

@@ -10,7 +10,7 @@ use Rattle.pcrlock_line.specs.Machine.{Machine}
 use Rattle.pcrlock_line.specs.Outcome.{Outcome}
 use Rattle.pcrlock_input.specs.Answering.{◌>>=◌}
 use Rattle.pcrlock_input.specs.Logs.{PlainLogs, logs_of, rows_of}
-use Rattle.pcrlock_read.specs.Printing.{printed_line}
+use Rattle.pcrlock_line.specs.Printing.{printed_line}
 
 -- a record of the combined log, without who measured it
 abbrev pub measured : Row → Spelled

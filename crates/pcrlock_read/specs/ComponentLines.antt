@@ -7,7 +7,7 @@ use Rattle.pcrlock_line.specs.Machine.{Machine}
 use Rattle.pcrlock_line.specs.Outcome.{Outcome}
 use Rattle.pcrlock_input.specs.Answering.{◌>>=◌}
 use Rattle.pcrlock_input.specs.Components.{components_of}
-use Rattle.pcrlock_read.specs.Printing.{printed_line}
+use Rattle.pcrlock_line.specs.Printing.{printed_line}
 
 -- the text of the components, unless they are refused
 abbrev pub listed_of : FileMap → List (List ℕ) → Result (List ℕ) Answer

@@ -35,7 +35,7 @@ use Rattle.pcrlock_line.proofs.Standing.{holds_same}
 use Rattle.pcrlock_line.proofs.Ties.{follows}
 use Rattle.pcrlock_input.specs.Logs.{PlainLogs, locality_in, rows_of}
 use Rattle.pcrlock_tpm.specs.Boot.{restarted, measured_row, measured, measured_states, booted, booted_line, boot_locality, boot_state, boot_world, at_state, IsPartWay}
-use Rattle.pcrlock_tpm.specs.Running.{Runs, Keeps}
+use Rattle.pcrlock_line.specs.Running.{Runs, Keeps}
 
 -- ---- one command
 

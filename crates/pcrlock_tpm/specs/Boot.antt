@@ -13,7 +13,7 @@ use Rattle.pcrlock_line.specs.Begun.{by_device}
 use Rattle.pcrlock_line.specs.Machine.{Machine, Live, machine}
 use Rattle.pcrlock_line.specs.Outcome.{Outcome, Fine, refused_line}
 use Rattle.pcrlock_input.specs.Logs.{PlainLogs, locality_in, logs_of, rows_of}
-use Rattle.pcrlock_tpm.specs.Running.{Keeps}
+use Rattle.pcrlock_line.specs.Running.{Keeps}
 
 -- a restart of the machine at the locality: exactly these banks are present, their PCRs have their
 -- start values, no session is open, and no update is counted (TPM 2.0 Library Part 3, TPM2_Startup)

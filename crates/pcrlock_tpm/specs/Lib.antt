@@ -1,3 +1,2 @@
 pub mod Extend
-pub mod Running
 pub mod Boot

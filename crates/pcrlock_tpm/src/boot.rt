@@ -15,7 +15,7 @@ ghost use Rattle.pcrlock_line.specs.Stopped.{StandsAmong};
 ghost use Rattle.pcrlock_input.specs.Logs.{AreRead, PlainLogs, plain_logs};
 ghost use Rattle.pcrlock_tpm.specs.Boot.{restarted, measured_row, measured, booted, booted_line, boot_state, boot_world, tpm_boot_line, IsPartWay};
 ghost use Rattle.pcrlock_tpm.specs.Extend.{is_extended as extends};
-ghost use Rattle.pcrlock_tpm.specs.Running.{Runs, Keeps};
+ghost use Rattle.pcrlock_line.specs.Running.{Runs, Keeps};
 
 use hash_bank::Banks;
 use pcr_replay::LogRecord;

@@ -1,4 +1,5 @@
 pub mod PcrPlaces
+pub mod Rising
 pub mod Places
 pub mod Starts
 pub mod Handles

@@ -1,6 +1,7 @@
 //! Sealed objects, and the commands on them.
-ghost use Rattle.std.specs.Prelude.{◌≡◌, ◌+◌, ◌<◌, ◌≤◌, ◌==◌, [], ◌∷◌, ◌++◌, length, option_copied, position, IfOk, OnErr};
+ghost use Rattle.std.specs.Prelude.{◌≡◌, ◌+◌, ◌<◌, ◌≤◌, ◌==◌, true, [], ◌∷◌, ◌++◌, length, option_copied, position, IfOk, OnErr};
 ghost use Rattle.tpm_model.specs.Held.{parts_of};
+ghost use Rattle.tpm_model.specs.SessionRules.{keeps_session_order};
 ghost use Rattle.tpm_model.specs.Sessions.{is_object, object_at, object_place as place_of_object};
 ghost use Rattle.tpm_model.specs.ObjectCommands.{evict, is_policy_size as has_policy_size, seal, unseal};
 
@@ -103,9 +104,10 @@ pub(crate) fn evicted(held: &mut Held, handle: u32) -> Response
 
 /// Unseal.
 pub(crate) fn unsealed(held: &Held, number: u32, handle: u32) -> Response
+    requires { keeps_session_order (parts_of held.now) ≡ true }
     ensures { (result, parts_of held.now) ≡ unseal number handle (parts_of held.now) }
 {
-    let Some(session) = find_session(held.sessions.as_slice(), number) else {
+    let Some(session) = find_session(held, number) else {
         return Response::Refused(Refusal::Handle(number));
     };
     let Some(object) = find_object(held.objects.as_slice(), handle) else {

@@ -3,9 +3,10 @@ ghost use Rattle.std.specs.Prelude.{◌≡◌, ◌+◌, ◌<◌, ◌≤◌, ◌=
 ghost use Rattle.std.specs.List.{list_all};
 ghost use Rattle.std.specs.Str.{bytes_eq};
 ghost use Rattle.tpm_model.specs.Pcrs.{HasValues};
-ghost use Rattle.tpm_model.specs.Sessions.{is_session, is_session_hash as allowed, session_place as place_of_session, session_at};
+ghost use Rattle.tpm_model.specs.Sessions.{is_session_hash as allowed, session_place as place_of_session, session_at};
 ghost use Rattle.tpm_model.specs.SessionCommands.{content_in, has_size as size_has, is_wrong_list as wrong_list_is, start_session, noted_before as noted_before_of, with_entry, with_pcrs, policy_authorize_nv, policy_or, policy_pcr, policy_get_digest, flush_session};
 ghost use Rattle.tpm_model.specs.Held.{parts_of};
+ghost use Rattle.tpm_model.specs.SessionRules.{keeps_session_order};
 ghost use Rattle.tpm_model.specs.Shape.{HasShape, IsSessionShape};
 ghost use Rattle.tpm_model.specs.declared.sessions.Session.{Session as SessionValue};
 
@@ -60,26 +61,26 @@ pub(crate) fn is_session_hash(hash: Bank) -> bool
     }
 }
 
-/// The place of the session of the handle.
-fn session_position(sessions: &[Session], handle: u32) -> Option<usize>
-    ensures { result ≡ position (is_session handle) sessions.now }
+/// The place of the session of the handle, or the number of sessions where there is none. Sessions stand
+/// by rising handles, so each look halves what is left.
+fn session_place(held: &Held, handle: u32) -> usize
+    requires { keeps_session_order (parts_of held.now) ≡ true }
+    ensures { result ≡ place_of_session handle held.now.sessions }
 {
-    sessions.iter().position(|session| session.handle == handle)
-}
-
-/// The place of the session of the handle, or the number of sessions where there is none.
-#[tactic(auto, using(crate::proofs::Places::place_or_len))]
-fn session_place(sessions: &[Session], handle: u32) -> usize
-    ensures { result ≡ place_of_session handle sessions.now }
-{
-    session_position(sessions, handle).unwrap_or(sessions.len())
+    let sessions = held.sessions.as_slice();
+    let place = sessions.partition_point(|session| session.handle < handle);
+    match sessions.get(place) {
+        Some(session) if session.handle == handle => place,
+        _ => sessions.len(),
+    }
 }
 
 /// The session of the handle.
-pub(crate) fn find_session(sessions: &[Session], handle: u32) -> Option<&Session>
-    ensures { option_copied result ≡ session_at handle sessions.now }
+pub(crate) fn find_session(held: &Held, handle: u32) -> Option<&Session>
+    requires { keeps_session_order (parts_of held.now) ≡ true }
+    ensures { option_copied result ≡ session_at handle held.now.sessions }
 {
-    sessions.get(session_place(sessions, handle))
+    held.sessions.as_slice().get(session_place(held, handle))
 }
 
 /// StartSession. It reserves the session's whole trail.
@@ -150,10 +151,11 @@ pub(crate) fn pcrs_bound(
     bank: Bank,
     pcrs: u32,
 ) -> Response
-    requires { HasShape (parts_of held.old) }
+    requires shape { HasShape (parts_of held.old) }
+    requires order { keeps_session_order (parts_of held.old) ≡ true }
     ensures { (result, parts_of held.new) ≡ policy_pcr handle bank pcrs (parts_of held.old) }
 {
-    let place = session_place(held.sessions.as_slice(), handle);
+    let place = session_place(held, handle);
     let Some(session) = held.sessions.as_slice().get(place) else {
         return Response::Refused(Refusal::Handle(handle));
     };
@@ -223,12 +225,13 @@ fn is_wrong_list(session: &Session, list: &[Digest]) -> bool
 
 /// PolicyOr.
 pub(crate) fn branch_joined(alloc: Global, held: &mut Held, handle: u32, list: &Group) -> Response
-    requires { HasShape (parts_of held.old) }
+    requires shape { HasShape (parts_of held.old) }
+    requires order { keeps_session_order (parts_of held.old) ≡ true }
     ensures value { (result, parts_of held.new) ≡ policy_or handle list.now (parts_of held.old) }
     ensures bound { length list.now ≤ 8 }
 {
     let digests = list.as_slice();
-    let place = session_place(held.sessions.as_slice(), handle);
+    let place = session_place(held, handle);
     let Some(session) = held.sessions.as_slice().get(place) else {
         return Response::Refused(Refusal::Handle(handle));
     };
@@ -259,10 +262,11 @@ fn is_content_of(hash: Bank, digest: &Digest, content: &[u8]) -> bool
 
 /// PolicyAuthorizeNv.
 pub(crate) fn index_authorized(alloc: Global, held: &mut Held, handle: u32, index: u32) -> Response
-    requires { HasShape (parts_of held.old) }
+    requires shape { HasShape (parts_of held.old) }
+    requires order { keeps_session_order (parts_of held.old) ≡ true }
     ensures { (result, parts_of held.new) ≡ policy_authorize_nv handle index (parts_of held.old) }
 {
-    let place = session_place(held.sessions.as_slice(), handle);
+    let place = session_place(held, handle);
     let Some(session) = held.sessions.as_slice().get(place) else {
         return Response::Refused(Refusal::Handle(handle));
     };
@@ -291,9 +295,10 @@ pub(crate) fn index_authorized(alloc: Global, held: &mut Held, handle: u32, inde
 
 /// PolicyGetDigest.
 pub(crate) fn digest_answer(held: &Held, handle: u32) -> Response
+    requires { keeps_session_order (parts_of held.now) ≡ true }
     ensures { (result, parts_of held.now) ≡ policy_get_digest handle (parts_of held.now) }
 {
-    match find_session(held.sessions.as_slice(), handle) {
+    match find_session(held, handle) {
         Some(session) => Response::PolicyDigest(session.digest),
         None => Response::Refused(Refusal::Handle(handle)),
     }
@@ -301,9 +306,10 @@ pub(crate) fn digest_answer(held: &Held, handle: u32) -> Response
 
 /// FlushSession.
 pub(crate) fn session_flushed(held: &mut Held, handle: u32) -> Response
+    requires { keeps_session_order (parts_of held.old) ≡ true }
     ensures { (result, parts_of held.new) ≡ flush_session handle (parts_of held.old) }
 {
-    let place = session_place(held.sessions.as_slice(), handle);
+    let place = session_place(held, handle);
     if place >= held.sessions.len() {
         return Response::Refused(Refusal::Handle(handle));
     }

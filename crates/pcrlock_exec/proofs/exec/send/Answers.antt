@@ -1,6 +1,6 @@
 use Rattle.tpm_model.specs.Respond.{respond}
 use Rattle.tpm_commands.specs.Responses.{response_text}
-use Rattle.pcrlock_exec.specs.Running.{Keeps, Runs}
+use Rattle.pcrlock_line.specs.Running.{Keeps, Runs}
 use Rattle.pcrlock_exec.proofs.Steps.{kept_next, runs_on, stopped_at, told_causes, told_line}
 use Rattle.pcrlock_exec.proofs.exec.send.Goals as goal
 

@@ -2,7 +2,7 @@ use Rattle.std.proofs.Common.{◌≡◌, ◌≤◌, true, take}
 use Rattle.tpm_model.specs.declared.parts.Parts.{Parts}
 use Rattle.tpm_worlds.specs.CommandLists.{state_after}
 use Rattle.pcrlock_exec.specs.Exec.{exec_text}
-use Rattle.pcrlock_exec.specs.Running.{Runs}
+use Rattle.pcrlock_line.specs.Running.{Runs}
 use Rattle.pcrlock_exec.proofs.exec.send_all.Given as goal
 
 -- the device is ready, and where it tells its state, that is the one after the commands so far, whose

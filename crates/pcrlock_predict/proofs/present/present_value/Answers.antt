@@ -1,6 +1,6 @@
 use Rattle.std.proofs.Common.{ap, ◌∙◌}
 use Rattle.pcrlock_predict.specs.Present.{reading_of}
-use Rattle.pcrlock_predict.specs.Running.{Runs}
+use Rattle.pcrlock_line.specs.Running.{Runs}
 use Rattle.pcrlock_predict.proofs.Ended.{without_fault}
 use Rattle.pcrlock_predict.proofs.PcrReads.{if_ok, read_tells, runs_on, stopped, told_by}
 use Rattle.pcrlock_predict.proofs.present.present_value.Goals as goal

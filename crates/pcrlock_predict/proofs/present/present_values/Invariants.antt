@@ -3,7 +3,7 @@ use Rattle.std.specs.List.{All}
 use Rattle.hash_bank.specs.Hash.{size_in}
 use Rattle.tpm_model.specs.declared.parts.Parts.{Parts}
 use Rattle.pcrlock_predict.specs.Present.{present_of}
-use Rattle.pcrlock_predict.specs.Running.{Runs}
+use Rattle.pcrlock_line.specs.Running.{Runs}
 use Rattle.pcrlock_predict.proofs.Left.{before, values_left}
 use Rattle.pcrlock_predict.proofs.present.present_values.Given as goal
 

@@ -2,7 +2,7 @@ use Rattle.std.proofs.Common.{◌≡◌, ◌≢◌, ℕ, ◌≤◌, length, take
 use Rattle.std.proofs.lemmas.List.{length-map}
 use Rattle.pcr_replay.specs.Row.{rows}
 use Rattle.pcrlock_tpm.specs.Boot.{measured}
-use Rattle.pcrlock_tpm.specs.Running.{Runs}
+use Rattle.pcrlock_line.specs.Running.{Runs}
 use Rattle.pcrlock_tpm.proofs.Boots.{free_after, no_end, one_more, part_way}
 use Rattle.pcrlock_tpm.proofs.boot.extend_all.Goals as goal
 

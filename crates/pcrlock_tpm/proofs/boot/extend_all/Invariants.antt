@@ -2,7 +2,7 @@ use Rattle.std.proofs.Common.{◌≡◌, ◌≤◌, true, take}
 use Rattle.pcr_replay.specs.Row.{rows}
 use Rattle.tpm_model.specs.declared.parts.Parts.{Parts}
 use Rattle.pcrlock_tpm.specs.Boot.{measured}
-use Rattle.pcrlock_tpm.specs.Running.{Runs}
+use Rattle.pcrlock_line.specs.Running.{Runs}
 use Rattle.pcrlock_tpm.proofs.boot.extend_all.Given as goal
 
 -- the device is ready, and where it tells its state, that is the one after the records so far

@@ -1,7 +1,7 @@
 use Rattle.std.proofs.Common.{refl}
 use Rattle.pcr_replay.specs.Row.{rows}
 use Rattle.pcrlock_tpm.specs.Boot.{restarted, IsPartWay}
-use Rattle.pcrlock_tpm.specs.Running.{Keeps}
+use Rattle.pcrlock_line.specs.Running.{Keeps}
 use Rattle.pcrlock_tpm.proofs.Boots.{stops_later}
 use Rattle.pcrlock_tpm.proofs.boot.restart_and_extend.Goals as goal
 

@@ -1,22 +1,11 @@
--- A device that tells its state.
-use Rattle.std.specs.Prelude.{◌≡◌, ◌≤◌, ℕ, List, length, take, Option, Some}
+-- Sending a list of commands to a device that tells its state.
+use Rattle.std.specs.Prelude.{◌≤◌, ℕ, List, length, take, Option}
 use Rattle.tpm_model.specs.declared.command.Command.{Command}
 use Rattle.tpm_model.specs.declared.command.Command.TheVariants as command
 use Rattle.tpm_model.specs.declared.parts.Parts.{Parts}
-use Rattle.tpm_model.specs.Rules.{HasRules}
-use Rattle.tpm_device.specs.Stored.{Stored, Holds}
+use Rattle.tpm_device.specs.Stored.{Stored}
+use Rattle.pcrlock_line.specs.Running.{Keeps}
 use Rattle.tpm_worlds.specs.CommandLists.{state_after}
-
--- the state is live and stored, and has its rules
-pub record Runs (now : Option Parts) (kept : Option Stored) (s : Parts) : Type 0 where
-  pub live : now ≡ Some s
-  pub stored : kept ≡ Some (Holds s)
-  pub rules : HasRules s
-
--- the state is stored, and has its rules
-pub record Keeps (kept : Option Stored) (s : Parts) : Type 0 where
-  pub stored : kept ≡ Some (Holds s)
-  pub rules : HasRules s
 
 -- a list of digests has at most 8, and a secret at most 128 bytes
 abbrev pub HasSizes : Command → Type 0
