@@ -3,4 +3,3 @@ pub mod Composed
 pub mod Replaced
 pub mod Standing
 pub mod Devices
-pub mod Ties

@@ -16,7 +16,7 @@ use Rattle.pcrlock_line.specs.Machine.{Machine}
 use Rattle.pcrlock_line.specs.Content.{Content, Missing, TooLarge, Bytes, content_of}
 use Rattle.pcrlock_line.specs.Begun.{by_device}
 use Rattle.pcrlock_line.specs.Worlds.{IsTied, IsTiedTo}
-use Rattle.pcrlock_line.proofs.Ties.{same_tied}
+use Rattle.tpm_model.proofs.Ties.{same_tied}
 use Rattle.pcrlock_open.specs.Unseal.{unsealed_line, literal_line, token_line, content_line, unseal_line}
 
 -- but for the number of the next session the state is as before

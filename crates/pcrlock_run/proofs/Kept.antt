@@ -20,7 +20,7 @@ use Rattle.pcrlock_line.specs.Begun.{by_device}
 use Rattle.pcrlock_line.specs.Content as content
 use Rattle.pcrlock_line.specs.Content.{Content, content_of}
 use Rattle.pcrlock_line.specs.Worlds.{IsTied, IsTiedTo, by_state}
-use Rattle.pcrlock_line.proofs.Ties.{tied_hashed}
+use Rattle.tpm_model.proofs.Ties.{tied_hashed}
 use Rattle.pcrlock_tpm.specs.Extend.{extended_line, tpm_extend_line, extend_world}
 use Rattle.pcrlock_tpm.proofs.Extends.{extend_tied, extend_order, extend_leaves}
 use Rattle.pcrlock_seal.specs.Enroll.{enrolled_line, enroll_line}

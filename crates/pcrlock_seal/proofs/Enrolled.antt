@@ -15,7 +15,7 @@ use Rattle.tpm_model.specs.Binding.{literal_policy}
 use Rattle.tpm_model.specs.ObjectCommands.{seal, is_policy_size, object_handle}
 use Rattle.tpm_model.specs.Pcrs.{pcr_of}
 use Rattle.tpm_model.specs.ObjectRules.{keeps_object_order}
-use Rattle.pcrlock_line.proofs.Ties.{tied_hashed}
+use Rattle.tpm_model.proofs.Ties.{tied_hashed}
 use Rattle.std.proofs.lemmas.List.{map-append}
 use Rattle.std.specs.List.{Contains}
 use Rattle.std.proofs.lemmas.List.Elements.{Contains-append_left}

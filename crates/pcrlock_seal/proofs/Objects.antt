@@ -21,7 +21,7 @@ use Rattle.tpm_model.specs.Sessions.{is_object, object_at}
 use Rattle.tpm_model.proofs.Handles.{AreHandles}
 use Rattle.tpm_model.specs.World.{World, BoundObject, AreHashed, sealed_world, hashed_world}
 use Rattle.tpm_model.specs.Tied.{Tied, IsHeld, IsSoundBinding}
-use Rattle.pcrlock_line.proofs.Ties.{more_hashed, tied_hashed}
+use Rattle.tpm_model.proofs.Ties.{more_hashed, tied_hashed}
 
 -- no object has a handle past those of all
 pub none_found : (first end handle : ℕ) (objects : List Object) → AreHandles first end (map (λ (x : Object). x.handle) objects) → end ≤ handle → object_at handle objects ≡ None

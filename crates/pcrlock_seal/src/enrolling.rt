@@ -57,7 +57,7 @@ fn mask_of(pcr: u8) -> u32
 }
 
 /// The policy of a literal.
-#[tactic(auto, using(policy_session::proofs::OnePcr::one_value))]
+#[tactic(auto, using(policy_session::proofs::OneValue::one_value))]
 fn policy_of_literal(literal: &Literal) -> Digest
     requires { IsLiteral literal.now }
     ensures { result ≡ literal_policy literal.now.hash literal.now.bank literal.now.pcr literal.now.value }

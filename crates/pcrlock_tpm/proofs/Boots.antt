@@ -32,7 +32,7 @@ use Rattle.tpm_model.specs.World.{World}
 use Rattle.pcrlock_line.specs.Machine.{Live, machine}
 use Rattle.pcrlock_line.specs.Stopped.{StandsAt, StandsAmong}
 use Rattle.pcrlock_line.proofs.Standing.{holds_same}
-use Rattle.pcrlock_line.proofs.Ties.{follows}
+use Rattle.tpm_model.proofs.Ties.{follows}
 use Rattle.pcrlock_input.specs.Logs.{PlainLogs, locality_in, rows_of}
 use Rattle.pcrlock_tpm.specs.Boot.{restarted, measured_row, measured, measured_states, booted, booted_line, boot_locality, boot_state, boot_world, at_state, IsPartWay}
 use Rattle.pcrlock_line.specs.Running.{Runs, Keeps}

@@ -25,7 +25,7 @@ use Rattle.pcrlock_line.specs.Stopped.{StandsAt, StandsAmong}
 use Rattle.pcrlock_line.proofs.Standing.{holds_same}
 use Rattle.tpm_model.specs.World.{World}
 use Rattle.tpm_model.specs.Tied.{Tied}
-use Rattle.pcrlock_line.proofs.Ties.{follows}
+use Rattle.tpm_model.proofs.Ties.{follows}
 use Rattle.tpm_model.specs.ObjectRules.{keeps_object_order}
 use Rattle.pcrlock_tpm.specs.Extend.{state_after, extend_world, extended_line, extended_parts, extended_machine}
 

@@ -1,4 +1,4 @@
-pub mod OnePcr
+pub mod OneValue
 pub mod Sessions
 pub mod StepAnswers
 pub mod KeptStates

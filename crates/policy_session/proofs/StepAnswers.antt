@@ -29,7 +29,8 @@ use Rattle.policy_session.specs.declared.error.UnsealError.TheVariants as error
 use Rattle.policy_session.specs.LiteralUnseal.{opened_by}
 use Rattle.policy_session.specs.OpenSession.{with_open, closed, fresh_in, bound_in, IsOpen, start_answer, start_leaves, bind_answer, bind_leaves}
 use Rattle.policy_session.specs.Responses.{started, bound, digest_read, value_read, unsealed, ended}
-use Rattle.policy_session.proofs.OnePcr.{there, absent, one_value}
+use Rattle.tpm_model.proofs.OnePcr.{there, absent}
+use Rattle.policy_session.proofs.OneValue.{one_value}
 use Rattle.policy_session.proofs.Sessions.{place_last, get_last, set_last, remove_last}
 
 -- what a client takes from an answer, and the state after it

@@ -21,7 +21,7 @@ use std::alloc::Global;
 use tpm_device::Tpm;
 
 /// The policy that the literal's value meets.
-#[tactic(auto, using(crate::proofs::OnePcr::one_value))]
+#[tactic(auto, using(crate::proofs::OneValue::one_value))]
 fn policy_of(literal: &Literal) -> Digest
     requires { IsLiteral literal.now }
     ensures { result ≡ literal_policy literal.now.hash literal.now.bank literal.now.pcr literal.now.value }

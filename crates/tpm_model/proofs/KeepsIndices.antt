@@ -1,31 +1,30 @@
 -- The commands on indices keep the rules of a state.
-use Rattle.std.proofs.Common.{◌≡◌, ℕ, ◌+◌, ◌/◌, ◌%◌, ◌^◌, ◌<◌, ◌≤◌, ◌==◌, Bool, true, false, cond, not, List, [], ◌∷◌, ◌++◌, map, length, set, ◌&&◌, refl, sym, ap, subst, ◌∙◌, arith}
-use Rattle.std.specs.Prelude.{nat_le, nat_lt, remove, slice_get, is_some, reverse, Option, None, Some}
+use Rattle.std.proofs.Common.{◌≡◌, ℕ, ◌+◌, ◌^◌, ◌<◌, ◌≤◌, ◌==◌, Bool, true, false, cond, not, List, [], ◌∷◌, map, length, set, ◌&&◌, refl, sym, ap, subst, arith}
+use Rattle.std.specs.Prelude.{nat_le, nat_lt, remove, reverse, Option, None, Some}
 use Rattle.std.specs.List.{AllByRecursion, list_all}
 use Rattle.std.specs.Str.{bytes_eq}
-use Rattle.std.proofs.lemmas.Bool.{and_from, and_parts, cond_both, eqb-false, eqb-true, le-leb, leb-false, leb-true, lt-ltb}
+use Rattle.std.proofs.lemmas.Bool.{and_from, and_parts, cond_both, eqb-false, eqb-true, le-leb, leb-true, lt-ltb}
 use Rattle.std.proofs.lemmas.List.Edits.{length-remove}
 use Rattle.std.proofs.Math.ListN.{length-set}
 use Rattle.std.proofs.lemmas.Option.{slice_get_within}
 use Rattle.hash_bank.specs.declared.bank.Bank.{Bank}
 use Rattle.nv_index.specs.Handles.{are_handles}
 use Rattle.nv_index.specs.IndexName.{index_name_of}
-use Rattle.nv_index.specs.Table.{IsTable, after_write_of, are_apart, define_refusal, has_attributes, has_written, index_at, index_place, is_before, is_counted, is_marked, is_mark, is_numbered, is_numbered_within, is_some_number, is_write_before, undefine_refusal, undefine_refusal_of, unwritten, with_index, write_refusal, write_refusal_of, written_with}
+use Rattle.nv_index.specs.Table.{IsTable, after_write_of, are_apart, define_refusal, has_attributes, index_at, index_place, is_before, is_counted, is_marked, is_mark, is_numbered, is_numbered_within, is_some_number, is_write_before, undefine_refusal_of, unwritten, with_index, write_refusal_of, written_with}
 use Rattle.nv_index.specs.declared.index.Index.{Index}
 use Rattle.nv_index.specs.declared.index.NvPublic.{NvPublic}
 use Rattle.nv_index.specs.declared.index.Written.{Written}
 use Rattle.nv_index.specs.declared.refusal.NvRefusal.{NvRefusal}
 use Rattle.nv_index.proofs.Lists.{all_at, all_remove, all_set, passes_at, passes_remove, passes_set, passes_weaker}
-use Rattle.nv_index.proofs.TableKeeps.{IsDefinable, apart_set, apart_unwritten, apart_without, definable, length_with, new_attributes, order_remove, order_set, order_with, passes_with, written_attributes_kept}
+use Rattle.nv_index.proofs.TableKeeps.{apart_set, apart_unwritten, apart_without, definable, length_with, new_attributes, order_remove, order_set, order_with, passes_with, written_attributes_kept}
 use Rattle.policy_digest.specs.Pin.{pin_policy_of}
 use Rattle.tpm_model.specs.declared.parts.Parts.{Parts}
-use Rattle.tpm_model.specs.declared.sessions.Session.{Session}
 use Rattle.tpm_model.specs.declared.trail.TrailEntry.{TrailEntry}
 use Rattle.tpm_model.specs.declared.trail.TrailEntry.TheVariants.{Pcr, Or, AuthorizeNv}
 use Rattle.tpm_model.specs.IndexCommands.{nv_define, nv_define_unless, nv_undefine, nv_undefine_unless, nv_write, nv_write_unless}
 use Rattle.tpm_model.specs.Rules.{HasRules}
 use Rattle.tpm_model.specs.SessionRules.{agrees_with, are_reads, has_reads, is_read, is_sha256, is_that_write}
-use Rattle.tpm_model.specs.Shape.{HasShape, IsIndexShape, IsWrittenShape}
+use Rattle.tpm_model.specs.Shape.{IsIndexShape, IsWrittenShape}
 use Rattle.tpm_model.specs.Trails.{digest_of_in}
 use Rattle.tpm_model.proofs.KeepsRules.{Keeps, from_not}
 

@@ -1,10 +1,10 @@
 -- PolicyOR and PolicyAuthorizeNV keep the rules of a state.
-use Rattle.std.proofs.Common.{◌≡◌, ℕ, ◌+◌, ◌<◌, ◌≤◌, ◌==◌, Bool, true, false, cond, not, List, [], ◌∷◌, ◌++◌, length, ◌||◌, ◌&&◌, ◌⊎◌, inl, inr, zero, suc, refl, sym, ap, subst, ◌∙◌, arith}
-use Rattle.std.specs.Prelude.{nat_le, nat_lt, slice_get, slice_set, reverse, Option, None, Some}
+use Rattle.std.proofs.Common.{◌≡◌, ℕ, ◌+◌, ◌<◌, ◌≤◌, ◌==◌, Bool, true, false, cond, not, List, [], ◌∷◌, ◌++◌, length, ◌||◌, ◌&&◌, inl, inr, zero, suc, refl, sym, ap, subst, ◌∙◌, arith}
+use Rattle.std.specs.Prelude.{nat_le, nat_lt, slice_get, reverse, Option, None, Some}
 use Rattle.std.specs.Int.{w16, to_be_bytes}
 use Rattle.std.specs.List.{AllByRecursion, list_all, list_any}
 use Rattle.std.specs.Str.{bytes_eq}
-use Rattle.std.proofs.lemmas.Bool.{and_from, and_parts, cond_both, eq-eqb, eqb-true, leb-false, leb-true, ltb-false}
+use Rattle.std.proofs.lemmas.Bool.{and_from, and_parts, cond_both, eq-eqb, eqb-true, leb-false, ltb-false}
 use Rattle.std.proofs.lemmas.List.Folds.{list_any-append}
 use Rattle.std.proofs.Math.ListN.{length-append}
 use Rattle.hash_bank.specs.declared.bank.Bank.{Bank}
@@ -17,7 +17,7 @@ use Rattle.nv_index.specs.declared.index.Index.{Index}
 use Rattle.nv_index.specs.declared.index.NvPublic.{NvPublic}
 use Rattle.nv_index.specs.declared.index.Written.{Written}
 use Rattle.nv_index.proofs.Lists.{all_at, all_push, passes_at, passes_push, passes_weaker}
-use Rattle.policy_digest.specs.Policies.{IsPolicyHash, policy_authorize_nv_of, policy_or_of}
+use Rattle.policy_digest.specs.Policies.{IsPolicyHash, policy_authorize_nv_of}
 use Rattle.tpm_model.specs.declared.parts.Parts.{Parts}
 use Rattle.tpm_model.specs.declared.sessions.Session.{Session}
 use Rattle.tpm_model.specs.declared.trail.TrailEntry.{TrailEntry}

@@ -1,4 +1,6 @@
 pub mod PcrPlaces
+pub mod OnePcr
+pub mod Ties
 pub mod Rising
 pub mod Places
 pub mod Starts

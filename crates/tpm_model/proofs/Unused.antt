@@ -1,14 +1,13 @@
 -- The world in which nothing was done is tied to a TPM that was never used.
-use Rattle.std.proofs.Common.{◌≡◌, ℕ, List, [], refl, sym, ◌∙◌, arith}
+use Rattle.std.proofs.Common.{◌≡◌, [], refl, arith}
 use Rattle.std.specs.Prelude.{Contains, Option, Some, None}
 use Rattle.std.specs.Ordering.{nat_cmp}
-use Rattle.std.specs.FinMap.{FinMap, empty, get, get-empty}
+use Rattle.std.specs.FinMap.{empty, get, get-empty}
 use Rattle.hash_bank.specs.declared.banks.Banks.{Banks}
-use Rattle.tpm_model.specs.declared.parts.Parts.{Parts}
 use Rattle.tpm_model.specs.Fresh.{fresh_parts}
 use Rattle.tpm_model.specs.StartValues.{start_values}
 use Rattle.tpm_model.specs.Tied.{Tied}
-use Rattle.tpm_model.specs.World.{BoundObject, unused_world}
+use Rattle.tpm_model.specs.World.{unused_world}
 
 is_none : {X : Type 0} (o : Option X) (x : X) → o ≡ None → o ≡ Some x → ⊥
 is_none o x none some = absurd (cc (none, some))

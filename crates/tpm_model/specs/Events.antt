@@ -1,6 +1,5 @@
 -- Commands with their authors, and what an accepted one does to the world.
-use Rattle.std.specs.Prelude.{ℕ, List, [], ◌∷◌, ◌++◌, Contains, Option, None, Some}
-use Rattle.std.specs.Ordering.{nat_cmp}
+use Rattle.std.specs.Prelude.{ℕ, List, [], ◌∷◌, ◌++◌, Contains, Option}
 use Rattle.std.specs.FinMap.{insert, remove}
 use Rattle.hash_bank.specs.HashedString.{HashedString}
 use Rattle.nv_index.specs.declared.index.NvPublic.{NvPublic}

@@ -1,5 +1,5 @@
 -- The rules on indices.
-use Rattle.std.specs.Prelude.{ℕ, Bool, ◌&&◌, List, map}
+use Rattle.std.specs.Prelude.{Bool, ◌&&◌, map}
 use Rattle.std.specs.List.{list_all}
 use Rattle.nv_index.specs.Handles.{are_handles}
 use Rattle.nv_index.specs.Table.{are_apart, has_attributes, is_counted}

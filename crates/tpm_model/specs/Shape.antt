@@ -1,6 +1,6 @@
 -- What the layout of a state can hold: how many there are of each, and of which size. The rules of a
 -- state are another matter.
-use Rattle.std.specs.Prelude.{◌≡◌, ◌⊎◌, ℕ, ◌/◌, ◌%◌, ◌<◌, ◌≤◌, ◌^◌, ◌==◌, Bool, true, false, List, Option, None, Some, length}
+use Rattle.std.specs.Prelude.{◌≡◌, ◌⊎◌, ℕ, ◌<◌, ◌≤◌, ◌^◌, true, false, List, Option, None, Some, length}
 use Rattle.std.specs.List.{AllByRecursion}
 use Rattle.hash_bank.specs.declared.bank.Bank.{Bank}
 use Rattle.hash_bank.specs.Hash.{size_in}

@@ -1,10 +1,9 @@
 -- How a state with indices, their writes and the trails of sessions hangs together with the world.
-use Rattle.std.specs.Prelude.{◌≡◌, ◌⊎◌, ◌↔◌, ℕ, ◌+◌, ◌*◌, ◌^◌, ◌<◌, ◌≤◌, List, [], ◌∷◌, length, reverse, Contains, Option, None, Some}
+use Rattle.std.specs.Prelude.{◌≡◌, ◌⊎◌, ◌↔◌, ℕ, ◌^◌, ◌<◌, ◌≤◌, List, [], ◌∷◌, reverse, Contains, Option, None, Some}
 use Rattle.std.specs.FinMap.{get}
 use Rattle.std.specs.List.{AllByRecursion}
 use Rattle.hash_bank.specs.declared.bank.Bank.{Bank}
 use Rattle.hash_bank.specs.declared.bank.Bank.TheVariants.{Sha256}
-use Rattle.hash_bank.specs.HashedString.{HashedString}
 use Rattle.nv_index.specs.IndexName.{index_name_of, index_string, written_public}
 use Rattle.nv_index.specs.Table.{index_at}
 use Rattle.nv_index.specs.declared.index.Index.{Index}

@@ -25,7 +25,7 @@ use Rattle.tpm_model.proofs.Handles.{handles_push, handles_remove}
 use Rattle.tpm_worlds.specs.CommandLists.{state_after}
 use Rattle.tpm_worlds.specs.EventLists.{world_after_all}
 use Rattle.tpm_worlds.proofs.Cases.{by_evict, by_flush_session, by_nv_define, by_nv_read, by_nv_read_public, by_nv_undefine, by_nv_write, by_pcr_extend, by_pcr_read, by_policy_authorize_nv, by_policy_get_digest, by_policy_or, by_policy_pcr, by_restart, by_seal, by_start_session, by_unseal}
-use Rattle.tpm_worlds.proofs.Ties.{all_hashed, follows, same_tied, tied_evicted, tied_hashed, tied_object, tied_strange, tied_undefined}
+use Rattle.tpm_model.proofs.Ties.{all_hashed, follows, same_tied, tied_evicted, tied_hashed, tied_object, tied_strange, tied_undefined}
 
 -- the state that is left and the world after the event go together
 abbrev pub Goes : Event → World → Response × Parts → Type 0

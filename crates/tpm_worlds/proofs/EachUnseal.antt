@@ -23,7 +23,7 @@ use Rattle.tpm_worlds.proofs.Cases.{by_unseal}
 use Rattle.tpm_worlds.proofs.Opened.{opened}
 use Rattle.tpm_worlds.proofs.Sessions.{IsGood}
 use Rattle.tpm_worlds.proofs.Steady.{Steady, grows_after, steady_after, steady_from, tie_from}
-use Rattle.tpm_worlds.proofs.Ties.{Grows}
+use Rattle.tpm_model.proofs.Ties.{Grows}
 
 -- strings that are among safe ones are safe
 pub safe_before : (w v : World) → Grows w v → Safe v → Safe w

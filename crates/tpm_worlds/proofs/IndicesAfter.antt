@@ -25,7 +25,7 @@ use Rattle.tpm_worlds.specs.WholeEvents.{KnowsPins}
 use Rattle.tpm_worlds.proofs.IndexPlaces.{found_handle, none_left, removed_at, removed_at_other, set_at, set_at_other, with_at, with_at_other}
 use Rattle.tpm_worlds.proofs.Indices.{live_stays, other_stays, root_stays}
 use Rattle.tpm_worlds.proofs.Members.{all_of, all_with, member}
-use Rattle.tpm_worlds.proofs.Ties.{only, pushed}
+use Rattle.tpm_model.proofs.Ties.{only, pushed}
 
 -- no index, and no index in the map
 neither : (s : Parts) (w : World) (q : ℕ) (live : LiveIndex) → index_at q s.indices ≡ None → get w.live q ≡ None → (get w.live q ≡ Some live) ↔ IsLive s w q live

@@ -1,7 +1,5 @@
-pub mod Ties
 pub mod Cases
 pub mod AfterCommand
-pub mod OnePcr
 pub mod SameStrings
 pub mod Trails
 pub mod Sessions

@@ -21,7 +21,7 @@ use Rattle.tpm_model.specs.Trails.{digest_of_in}
 use Rattle.tpm_model.specs.World.{World, AreHashed}
 use Rattle.tpm_worlds.specs.SealedTie.{AreHashedEntries}
 use Rattle.tpm_worlds.specs.EventLists.{Safe}
-use Rattle.tpm_worlds.proofs.OnePcr.{one_of_24, present_value}
+use Rattle.tpm_model.proofs.OnePcr.{one_of_24, present_value}
 use Rattle.tpm_worlds.proofs.SameStrings.{nv_is_no_pcr, or_is_no_pcr, same_pcr_string}
 use Rattle.tpm_worlds.proofs.Sessions.{IsGood, IsSeen, IsSmall, SeesNow, saw_so_far}
 use Rattle.tpm_worlds.proofs.Trails.{all_newest, length-digest_of_in}

@@ -27,7 +27,7 @@ use Rattle.tpm_model.specs.World.{World}
 use Rattle.tpm_model.proofs.KeepsRules.{KeepsSession, policy_hash}
 use Rattle.tpm_model.proofs.TrailSteps.{bytes_same, digest_step, newest_first}
 use Rattle.tpm_worlds.specs.SealedTie.{AreHashedEntries, IsHashedEntry, IsHashedSession}
-use Rattle.tpm_worlds.proofs.Ties.{Grows}
+use Rattle.tpm_model.proofs.Ties.{Grows}
 use Rattle.tpm_worlds.proofs.Trails.{all_map}
 
 -- an entry's mask, where it looked at PCRs, has 24 bits

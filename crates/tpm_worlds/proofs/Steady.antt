@@ -44,7 +44,7 @@ use Rattle.tpm_worlds.proofs.AfterCommand.{Goes, goes, order_after_command}
 use Rattle.tpm_worlds.proofs.Cases.{by_evict, by_flush_session, by_nv_define, by_nv_read, by_nv_read_public, by_nv_undefine, by_nv_write, by_pcr_extend, by_pcr_read, by_policy_authorize_nv, by_policy_get_digest, by_policy_or, by_policy_pcr, by_restart, by_seal, by_start_session, by_unseal}
 use Rattle.tpm_worlds.proofs.Sessions.{IsGood, good_from, good_on, hashed_from}
 use Rattle.tpm_worlds.proofs.SessionsAfter.{AreGood, sessions_after}
-use Rattle.tpm_worlds.proofs.Ties.{Grows, all_hashed, none_found, same_tied, sound_on, tied_bound, tied_hashed, tied_pinned, tied_updated}
+use Rattle.tpm_model.proofs.Ties.{Grows, all_hashed, none_found, same_tied, sound_on, tied_bound, tied_hashed, tied_pinned, tied_updated}
 use Rattle.tpm_worlds.proofs.Trails.{all_map}
 
 -- the values have their sizes

@@ -39,7 +39,7 @@ use Rattle.tpm_worlds.proofs.Cases.{by_evict, by_flush_session, by_nv_define, by
 use Rattle.tpm_worlds.proofs.IndexPlaces.{found_handle}
 use Rattle.tpm_worlds.proofs.IndicesAfter.{handle_range}
 use Rattle.tpm_worlds.proofs.SessionsAfter.{nv_hashed}
-use Rattle.tpm_worlds.proofs.Ties.{Grows}
+use Rattle.tpm_model.proofs.Ties.{Grows}
 use Rattle.tpm_worlds.proofs.Trails.{all_map}
 
 -- what each entry of a session's trail says of the world

@@ -32,7 +32,7 @@ use Rattle.tpm_worlds.proofs.IndicesAfter.{indices_defined, indices_same, indice
 use Rattle.tpm_worlds.proofs.Ranges.{ranged_accepted}
 use Rattle.tpm_worlds.proofs.SamePin.{same_pin}
 use Rattle.tpm_worlds.proofs.Steady.{command_hashed, hashed_stays, steady_after, steady_from, tie_from}
-use Rattle.tpm_worlds.proofs.Ties.{pushed, sound_on, tied_hashed}
+use Rattle.tpm_model.proofs.Ties.{pushed, sound_on, tied_hashed}
 use Rattle.tpm_worlds.proofs.TrailReads.{AreRead, GrowsAll, HasReads, hashed_session, reads_after, reads_on, session_reads, tied_session}
 use Rattle.tpm_worlds.proofs.Trails.{all_map}
 
