@@ -11,7 +11,7 @@ pub enum NvRefusal {
     Attributes,
     /// The size isn't that of an index's content, or the content to write has another one.
     Size,
-    /// The policy isn't a digest of SHA-256, or the content isn't the digest that was asked for.
+    /// The policy isn't a digest of SHA-256.
     Value,
     /// An index with the handle is there already.
     Defined,

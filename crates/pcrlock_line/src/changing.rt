@@ -20,6 +20,7 @@ pub fn replace_file<F: Files>(
     ensures told { (held : FileMap) → F.held files.old ≡ Some held → OnOk result (F.held files.new ≡ Some (insert held path.now bytes.now)) }
     ensures stops { (held : FileMap) → F.held files.old ≡ Some held
         → IfErr result (λ _. (F.held files.new ≡ Some held) ⊎ (F.held files.new ≡ Some (insert held path.now bytes.now))) }
+    ensures kind { IfErr result (λ stop. (stop ≡ Stop.WriteFault) ⊎ (stop ≡ Stop.Memory)) }
 {
     match files.replace(alloc, path, bytes) {
         Ok(()) => Ok(()),
@@ -33,6 +34,7 @@ pub fn draw<E: Entropy>(entropy: &mut E) -> Result<[u8; 32], Stop>
     ensures causes { HasCauses (0, E.faults entropy.old, 0, 0) (0, E.faults entropy.new, 0, 0) result }
     ensures told { (words : Sequence (Sequence ℕ)) → E.words entropy.old ≡ Some words → IfOk result (λ word. IsDrawn words word (E.words entropy.new)) }
     ensures stops { (words : Sequence (Sequence ℕ)) → E.words entropy.old ≡ Some words → IfErr result (λ _. E.words entropy.new ≡ Some words) }
+    ensures kind { IfErr result (λ stop. stop ≡ Stop.EntropyFault) }
 {
     match entropy.fill32() {
         Ok(word) => Ok(word),

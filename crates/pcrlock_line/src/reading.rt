@@ -1,5 +1,5 @@
 //! Files that a command reads.
-ghost use Rattle.std.specs.Prelude.{◌≡◌, ◌<◌, ◌≤◌, ℕ, Some, Err, IfOk};
+ghost use Rattle.std.specs.Prelude.{◌≡◌, ◌<◌, ◌≤◌, ◌⊎◌, ℕ, Some, Err, IfOk, IfErr};
 ghost use Rattle.pl_base.specs.FileMap.{FileMap};
 ghost use Rattle.pcrlock_line.specs.Content.{content_of, content_found};
 ghost use Rattle.pcrlock_line.specs.Causes.{HasCauses};
@@ -29,6 +29,7 @@ pub fn read_file<F: Files>(
     ensures causes { HasCauses (F.faults files.old, 0, 0, 0) (F.faults files.new, 0, 0, 0) result }
     ensures told { (held : FileMap) → F.held files.old ≡ Some held → IfOk result (λ found. content_found found ≡ content_of held path.now limit) }
     ensures same { F.held files.new ≡ F.held files.old }
+    ensures kind { IfErr result (λ stop. (stop ≡ Stop.ReadFault) ⊎ (stop ≡ Stop.Memory)) }
 {
     match files.read(alloc, path, limit) {
         Ok(bytes) => Ok(Found::Bytes(bytes)),

@@ -37,6 +37,7 @@ impl FaultCount {
     pub fn counted<T, E>(&mut self, outcome: Result<T, E>) -> Result<T, E>
         ensures same { result ≡ outcome }
         ensures rose { HasCause self.old self.new (IsErr outcome) }
+        ensures still { ¬ IsErr outcome → self.new ≡ self.old }
     {
         if outcome.is_err() {
             self.rise();

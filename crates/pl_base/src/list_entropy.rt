@@ -58,6 +58,7 @@ impl Entropy for ListEntropy {
         ensures cause { HasCause self.old.calls.faults self.new.calls.faults (result ≡ Err record {}) }
         ensures told { (before : Sequence (Sequence ℕ)) → Some self.old.words ≡ Some before → DrawLeaves before result (Some self.new.words) }
         ensures plan { FollowsPlan self.old.calls self.new.calls ((result ≡ Err record {}) × (0 < length self.old.words)) (IsOk result) }
+        ensures still { IsOk result → self.new.calls.faults ≡ self.old.calls.faults }
         ensures each { IsSome (planned self.old.calls) → result ≡ Err record {} }
     {
         match self.draw() {

@@ -138,6 +138,7 @@ impl Files for MemFiles {
         ensures told { (files : FileMap) → Some self.old.held ≡ Some files → ReadGives (get files path.now) limit result }
         ensures same { Some self.new.held ≡ Some self.old.held }
         ensures plan { FollowsPlan self.old.calls self.new.calls (result ≡ Err ReadError.Failed) (IsOk result) }
+        ensures still { ¬ (result ≡ Err ReadError.Failed) → self.new.calls.faults ≡ self.old.calls.faults }
         ensures each { IsSome (planned self.old.calls) → result ≡ Err ReadError.Failed }
     {
         if self.schedule.next_call().is_some() {
@@ -153,6 +154,7 @@ impl Files for MemFiles {
         ensures told { (files : FileMap) → Some self.old.held ≡ Some files → ListGives files path.now limit result }
         ensures same { Some self.new.held ≡ Some self.old.held }
         ensures plan { FollowsPlan self.old.calls self.new.calls (result ≡ Err ListError.Failed) (IsOk result) }
+        ensures still { ¬ (result ≡ Err ListError.Failed) → self.new.calls.faults ≡ self.old.calls.faults }
         ensures each { IsSome (planned self.old.calls) → result ≡ Err ListError.Failed }
     {
         if self.schedule.next_call().is_some() {
@@ -166,6 +168,7 @@ impl Files for MemFiles {
         ensures cause { HasCause self.old.calls.faults self.new.calls.faults (result ≡ Err ReplaceError.Failed) }
         ensures told { (files : FileMap) → Some self.old.held ≡ Some files → ReplaceLeaves files (insert files path.now bytes.now) result (Some self.new.held) }
         ensures plan { FollowsPlan self.old.calls self.new.calls (result ≡ Err ReplaceError.Failed) (IsOk result) }
+        ensures still { ¬ (result ≡ Err ReplaceError.Failed) → self.new.calls.faults ≡ self.old.calls.faults }
         ensures each { IsSome (planned self.old.calls) → (result ≡ Err ReplaceError.Failed) ⊎ (result ≡ Err ReplaceError.Memory) }
         ensures done { IfSome (planned self.old.calls) (λ fail. result ≡ Err ReplaceError.Failed → self.new.held ≡ (if fail.done then insert self.old.held path.now bytes.now else self.old.held)) }
     {
@@ -185,6 +188,7 @@ impl Files for MemFiles {
         ensures cause { HasCause self.old.calls.faults self.new.calls.faults (result ≡ Err RemoveError.Failed) }
         ensures told { (files : FileMap) → Some self.old.held ≡ Some files → RemoveLeaves files path.now result (Some self.new.held) }
         ensures plan { FollowsPlan self.old.calls self.new.calls (result ≡ Err RemoveError.Failed) (IsOk result) }
+        ensures still { ¬ (result ≡ Err RemoveError.Failed) → self.new.calls.faults ≡ self.old.calls.faults }
         ensures each { IsSome (planned self.old.calls) → result ≡ Err RemoveError.Failed }
         ensures done { IfSome (planned self.old.calls) (λ fail. result ≡ Err RemoveError.Failed → self.new.held ≡ (if fail.done then remove self.old.held path.now else self.old.held)) }
     {

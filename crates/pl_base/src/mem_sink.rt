@@ -61,6 +61,7 @@ impl Sink for MemSink {
         ensures cause { HasCause self.old.calls.faults self.new.calls.faults (result ≡ Err SinkError.Failed) }
         ensures told { (before : Sequence ℕ) → Some self.old.written ≡ Some before → WriteLeaves before bytes.now result (Some self.new.written) }
         ensures plan { FollowsPlan self.old.calls self.new.calls (result ≡ Err SinkError.Failed) (IsOk result) }
+        ensures still { ¬ (result ≡ Err SinkError.Failed) → self.new.calls.faults ≡ self.old.calls.faults }
         ensures each { IsSome (planned self.old.calls) → (result ≡ Err SinkError.Failed) ⊎ (result ≡ Err SinkError.Memory) }
         ensures done { IfSome (planned self.old.calls) (λ fail. result ≡ Err SinkError.Failed → self.new.written ≡ (if fail.done then self.old.written ++ bytes.now else self.old.written)) }
     {

@@ -1,4 +1,6 @@
-ghost use Rattle.std.specs.Prelude.{None};
+ghost use Rattle.std.specs.Prelude.{◌≡◌, ℕ, Option, None, Some, List, Err, IsErr};
+ghost use Rattle.pl_base.specs.Draw.{DrawLeaves};
+ghost use Rattle.pl_base.specs.Faults.{HasCause};
 
 use crate::fault_count::FaultCount;
 use crate::{Entropy, Failed};
@@ -37,7 +39,11 @@ impl<R: rt::Files> Entropy for RealEntropy<R> {
 
     ghost faults = { λ source. source.faults };
 
-    fn fill32(&mut self) -> Result<[u8; 32], Failed> {
+    fn fill32(&mut self) -> Result<[u8; 32], Failed>
+        ensures cause { HasCause self.old.faults self.new.faults (result ≡ Err record {}) }
+        ensures counts { HasCause self.old.faults self.new.faults (IsErr result) }
+        ensures told { (before : List (List ℕ)) → None ≡ Some before → DrawLeaves before result None }
+    {
         let outcome = random_word(&self.files).map_err(|_| Failed);
         self.faults.counted(outcome)
     }

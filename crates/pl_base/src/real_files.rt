@@ -1,5 +1,8 @@
-ghost use Rattle.std.specs.Prelude.{◌≤◌, ℕ, None, Err, IfOk, vec_len};
-ghost use Rattle.pl_base.specs.FileAnswers.{IsBounded, IsShort};
+ghost use Rattle.std.specs.Prelude.{◌≡◌, ◌≤◌, ℕ, Option, None, Some, Err, IfOk, IsErr, vec_len};
+ghost use Rattle.std.specs.FinMap.{get, insert};
+ghost use Rattle.pl_base.specs.Faults.{HasCause};
+ghost use Rattle.pl_base.specs.FileMap.{FileMap};
+ghost use Rattle.pl_base.specs.FileAnswers.{ReadGives, IsBounded, ListGives, IsShort, ReplaceLeaves, RemoveLeaves};
 
 use crate::fault_count::FaultCount;
 use crate::{Entry, Files, List, ListError, Name, ReadError, RemoveError, ReplaceError};
@@ -193,22 +196,42 @@ impl<R: rt::Files> Files for RealFiles<R> {
 
     ghost faults = { λ files. files.faults };
 
-    fn read(&mut self, alloc: Global, path: &str, limit: u64) -> Result<Vec<u8>, ReadError> {
+    fn read(&mut self, alloc: Global, path: &str, limit: u64) -> Result<Vec<u8>, ReadError>
+        ensures cause { HasCause self.old.faults self.new.faults (result ≡ Err ReadError.Failed) }
+        ensures counts { HasCause self.old.faults self.new.faults (IsErr result) }
+        ensures bounded { IsBounded limit result }
+        ensures told { (files : FileMap) → None ≡ Some files → ReadGives (get files path.now) limit result }
+        ensures same { ◌≡◌ {A = Option FileMap} None None }
+    {
         let outcome = read_file(&self.files, alloc, path, limit);
         self.faults.counted(outcome)
     }
 
-    fn list(&mut self, alloc: Global, path: &str, limit: u32) -> Result<List<Entry>, ListError> {
+    fn list(&mut self, alloc: Global, path: &str, limit: u32) -> Result<List<Entry>, ListError>
+        ensures cause { HasCause self.old.faults self.new.faults (result ≡ Err ListError.Failed) }
+        ensures counts { HasCause self.old.faults self.new.faults (IsErr result) }
+        ensures bounded { IsShort limit result }
+        ensures told { (files : FileMap) → None ≡ Some files → ListGives files path.now limit result }
+        ensures same { ◌≡◌ {A = Option FileMap} None None }
+    {
         let outcome = list_folder(&self.files, alloc, path, limit);
         self.faults.counted(outcome)
     }
 
-    fn replace(&mut self, alloc: Global, path: &str, bytes: &[u8]) -> Result<(), ReplaceError> {
+    fn replace(&mut self, alloc: Global, path: &str, bytes: &[u8]) -> Result<(), ReplaceError>
+        ensures cause { HasCause self.old.faults self.new.faults (result ≡ Err ReplaceError.Failed) }
+        ensures counts { HasCause self.old.faults self.new.faults (IsErr result) }
+        ensures told { (files : FileMap) → None ≡ Some files → ReplaceLeaves files (insert files path.now bytes.now) result None }
+    {
         let outcome = replace_file(&self.files, alloc, path, bytes);
         self.faults.counted(outcome)
     }
 
-    fn remove(&mut self, _alloc: Global, path: &str) -> Result<(), RemoveError> {
+    fn remove(&mut self, _alloc: Global, path: &str) -> Result<(), RemoveError>
+        ensures cause { HasCause self.old.faults self.new.faults (result ≡ Err RemoveError.Failed) }
+        ensures counts { HasCause self.old.faults self.new.faults (IsErr result) }
+        ensures told { (files : FileMap) → None ≡ Some files → RemoveLeaves files path.now result None }
+    {
         let outcome = remove_file(&self.files, path);
         self.faults.counted(outcome)
     }

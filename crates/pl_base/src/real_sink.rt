@@ -1,4 +1,6 @@
-ghost use Rattle.std.specs.Prelude.{None};
+ghost use Rattle.std.specs.Prelude.{◌≡◌, ℕ, Option, None, Some, List, Err, IsErr};
+ghost use Rattle.pl_base.specs.Faults.{HasCause};
+ghost use Rattle.pl_base.specs.Written.{WriteLeaves};
 
 use crate::fault_count::FaultCount;
 use crate::{Sink, SinkError};
@@ -28,7 +30,11 @@ impl<W: io::Write> Sink for RealSink<W> {
 
     ghost faults = { λ sink. sink.faults };
 
-    fn write_all(&mut self, _alloc: Global, bytes: &[u8]) -> Result<(), SinkError> {
+    fn write_all(&mut self, _alloc: Global, bytes: &[u8]) -> Result<(), SinkError>
+        ensures cause { HasCause self.old.faults self.new.faults (result ≡ Err SinkError.Failed) }
+        ensures counts { HasCause self.old.faults self.new.faults (IsErr result) }
+        ensures told { (before : List ℕ) → None ≡ Some before → WriteLeaves before bytes.now result None }
+    {
         let outcome = self.writer.write_all(bytes).map_err(|_| SinkError::Failed);
         self.faults.counted(outcome)
     }

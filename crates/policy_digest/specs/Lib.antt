@@ -8,3 +8,4 @@ pub mod TableStrings
 pub mod BindingStrings
 pub mod Mask
 pub mod Table
+pub mod Plain

@@ -11,7 +11,8 @@ use Rattle.policy_session.specs.declared.error.UnsealError.TheVariants as error
 use Rattle.tpm_device.specs.Stored.{Stored, Holds}
 use Rattle.policy_session.specs.Answers.{is_answer, Told}
 use Rattle.policy_session.specs.Kept.{IsKept, Stores}
-use Rattle.policy_session.specs.LiteralUnseal.{literal_policy, opened_at, opened_by}
+use Rattle.tpm_model.specs.Binding.{literal_policy}
+use Rattle.policy_session.specs.LiteralUnseal.{opened_at, opened_by}
 use Rattle.policy_session.specs.OpenSession.{bind_answer, compare_answer}
 
 abbrev pub passed : Result (Unit {0}) UnsealError

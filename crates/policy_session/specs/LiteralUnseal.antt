@@ -7,15 +7,11 @@ use Rattle.policy_digest.specs.Policies.{policy_pcr_of}
 use Rattle.policy_file.specs.declared.token.Literal.{Literal}
 use Rattle.tpm_model.specs.declared.object.Object.{Object}
 use Rattle.tpm_model.specs.declared.parts.Parts.{Parts}
+use Rattle.tpm_model.specs.Binding.{literal_policy}
 use Rattle.tpm_model.specs.Pcrs.{pcr_of}
 use Rattle.tpm_model.specs.Sessions.{object_at}
 use Rattle.policy_session.specs.declared.error.UnsealError.{UnsealError}
 use Rattle.policy_session.specs.declared.error.UnsealError.TheVariants as error
-
--- the policy that one value of one PCR meets: PolicyPCR from zeros (TPM 2.0 Library Part 3,
--- TPM2_PolicyPCR)
-abbrev pub literal_policy : Bank → Bank → ℕ → List ℕ → List ℕ
-literal_policy hash bank pcr value = policy_pcr_of hash (zeros_in hash) bank (2 ^ pcr) (digest_in hash value)
 
 -- the secret of the object that was found, where its policy is this one
 abbrev pub opened_by : List ℕ → ℕ → Option Object → Result (List ℕ) UnsealError

@@ -13,7 +13,7 @@ use Rattle.tpm_model.specs.SessionCommands.{session_handle}
 use Rattle.policy_session.specs.declared.error.UnsealError.{UnsealError}
 use Rattle.policy_session.specs.declared.error.UnsealError.TheVariants as error
 use Rattle.policy_session.specs.Kept.{IsKept}
-use Rattle.policy_session.specs.LiteralUnseal.{literal_policy}
+use Rattle.tpm_model.specs.Binding.{literal_policy}
 
 -- the state in which this session was started last
 unfoldable pub with_open : Session → Parts → Parts

@@ -8,7 +8,8 @@ ghost use Rattle.tpm_model.specs.Pcrs.{pcr_of};
 ghost use Rattle.tpm_model.specs.Rules.{HasRules};
 ghost use Rattle.policy_session.specs.Answers.{is_answer as answers, Told};
 ghost use Rattle.policy_session.specs.Kept.{Stores};
-ghost use Rattle.policy_session.specs.LiteralUnseal.{literal_policy, opened, opened_at, after_unseal, IsNeverForeseen};
+ghost use Rattle.tpm_model.specs.Binding.{literal_policy};
+ghost use Rattle.policy_session.specs.LiteralUnseal.{opened, opened_at, after_unseal, IsNeverForeseen};
 ghost use Rattle.policy_session.specs.OpenSession.{IsOpen, with_open, fresh_in, bound_in, bind_leaves, compare_answer};
 
 use crate::UnsealError;

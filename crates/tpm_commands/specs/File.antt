@@ -1,4 +1,4 @@
--- A file of commands, one a
+-- A file of commands, one on each line.
 use Rattle.std.specs.Prelude.{ℕ, ◌==◌, Bool, true, false, nat_lt, if◌then◌else◌, List, [], ◌∷◌, take, length, position, Option, Some, None, Result, Ok, Err}
 use Rattle.std.specs.List.{filter_map}
 use Rattle.std.specs.Str.{is_utf8}

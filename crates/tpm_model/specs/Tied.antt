@@ -1,5 +1,5 @@
--- How a state hangs together with the world around it. The parts that speak of indices, of their
--- writes and of the trails of sessions come with the commands on indices.
+-- How a state hangs together with the world around it, in banks, PCRs and objects. What trails, indices
+-- and their writes add stands in WholeTie.
 use Rattle.std.specs.Prelude.{◌≡◌, ℕ, List, Contains, Some}
 use Rattle.std.specs.FinMap.{get}
 use Rattle.policy_digest.specs.Policies.{IsPolicyHash}
