@@ -1,9 +1,7 @@
 -- When an object that is sealed to one value of one PCR is opened.
-use Rattle.std.specs.Prelude.{ℕ, ◌+◌, ◌^◌, ◌||◌, nat_le, if◌then◌else◌, List, length, Option, None, Some, Result, Ok, Err}
+use Rattle.std.specs.Prelude.{ℕ, ◌+◌, ◌||◌, nat_le, if◌then◌else◌, List, length, Option, None, Some, Result, Ok, Err}
 use Rattle.std.specs.Str.{bytes_eq}
 use Rattle.hash_bank.specs.declared.bank.Bank.{Bank}
-use Rattle.hash_bank.specs.Hash.{digest_in, zeros_in}
-use Rattle.policy_digest.specs.Policies.{policy_pcr_of}
 use Rattle.policy_file.specs.declared.token.Literal.{Literal}
 use Rattle.tpm_model.specs.declared.object.Object.{Object}
 use Rattle.tpm_model.specs.declared.parts.Parts.{Parts}
