@@ -39,7 +39,7 @@ use Rattle.pcrlock_run.specs.Headline.{UnsealIsExact, token_in, TokenIsExact, Co
 use Rattle.pcrlock_run.proofs.Kept.{line_kept}
 
 -- strings that are among safe ones are safe
-among : (xs ys : List HashedString) → ((x : HashedString) → Contains xs x → Contains ys x) → Safe ys → Safe xs
+pub among : (xs ys : List HashedString) → ((x : HashedString) → Contains xs x → Contains ys x) → Safe ys → Safe xs
 among xs ys inside safe = record {
   distinct = λ s t h k. safe.distinct s t (inside s h) (inside t k);
   nonzero = λ s h. safe.nonzero s (inside s h);
@@ -99,13 +99,13 @@ grows_line : (state : List ℕ) (words : List (List ℕ)) (policy : List ℕ) (m
 unfolding line_world
 grows_line state words policy m w = grows_answered state (request_of words (Some policy)) m w
 
-grows_script : (state policy : List ℕ) (lines : List (List ℕ)) (m : Machine) (w : World) → Grows w (script_world state policy lines m w)
+pub grows_script : (state policy : List ℕ) (lines : List (List ℕ)) (m : Machine) (w : World) → Grows w (script_world state policy lines m w)
 grows_script state policy [] m w = λ x h. h
 grows_script state policy (text ∷ texts) m w = λ x h.
     grows_script state policy texts (line state (words_of text) policy m).after (line_world state (words_of text) policy m w) x (grows_line state (words_of text) policy m w x h)
 
 -- a single `unseal`
-unseal_exact : (state token : List ℕ) (m : Machine) (w : World) → IsTied m.device w → Safe (hashed_world (unseal_outcome state token m).hashed w).hashed → UnsealIsExact state token m w
+pub unseal_exact : (state token : List ℕ) (m : Machine) (w : World) → IsTied m.device w → Safe (hashed_world (unseal_outcome state token m).hashed w).hashed → UnsealIsExact state token m w
 unfolding unseal_outcome
 unseal_exact state token m w t safe = λ live handle literal key is enrolled.
     let tied : IsTiedTo live.state w = subst (λ (x : Machine). IsTied x.device w) is t in

@@ -10,3 +10,5 @@ pub mod Kept
 pub mod Exact
 pub mod Lasts
 pub mod Firsts
+pub mod Premise
+pub mod Printed

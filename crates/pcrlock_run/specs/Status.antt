@@ -47,3 +47,11 @@ number_of statuses.Other = 7
 abbrev pub stop_number : Stop → ℕ
 stop_number stops.Memory = 6
 stop_number _ = 5
+
+-- the answer that tells a stop
+abbrev pub stop_answer : Stop → Answer
+stop_answer stops.ReadFault = answers.ReadFault
+stop_answer stops.WriteFault = answers.WriteFault
+stop_answer stops.EntropyFault = answers.EntropyFault
+stop_answer stops.TpmFault = answers.TpmFault
+stop_answer stops.Memory = answers.Memory

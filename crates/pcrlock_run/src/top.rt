@@ -3,17 +3,19 @@ ghost use Rattle.std.specs.Prelude.{◌≡◌, ◌≢◌, ◌⊎◌, ◌≤◌, 
 ghost use Rattle.pl_base.specs.Faults.{Rose};
 ghost use Rattle.pcrlock_line.specs.Machine.{Machine, Tells};
 ghost use Rattle.pcrlock_line.specs.Causes.{HasCauses};
-ghost use Rattle.pcrlock_run.specs.Status.{number_of, stop_number as number_of_stop};
-ghost use Rattle.tpm_model.specs.World.{World};
+ghost use Rattle.pcrlock_run.specs.Status.{number_of, stop_number as number_of_stop, stop_answer};
+ghost use Rattle.tpm_model.specs.World.{World, AreHashed};
 ghost use Rattle.pcrlock_words.specs.Requests.{request_of};
+ghost use Rattle.pcrlock_words.specs.Texts.{answer_text};
 ghost use Rattle.pcrlock_line.specs.Content.{content_found};
 ghost use Rattle.pcrlock_line.specs.Stopped.{StandsAt, StandsAmong};
 ghost use Rattle.pcrlock_line.specs.Worlds.{IsTied};
 ghost use Rattle.pcrlock_run.specs.Script.{command_line};
 ghost use Rattle.pcrlock_run.specs.Whole.{alone, script_of_text, script_of_bytes, script_of_content, run_script as script_run, run_request as request_run, run_spelled as spelled_run, run_line};
+ghost use Rattle.pcrlock_run.specs.Says.{Says};
 ghost use Rattle.pcrlock_run.specs.Leaves.{Safe, Leaves, IsNoScript};
 ghost use Rattle.pcrlock_run.specs.Worlds.{run_world};
-ghost use Rattle.pcrlock_run.specs.Headline.{RunIsExact};
+ghost use Rattle.pcrlock_run.specs.Headline.{CallIsExact, RunIsExact, token_spelled};
 
 use crate::command::command;
 use crate::next::line_count;
@@ -312,7 +314,9 @@ fn run_words<F: Files, T: Tpm, E: Entropy, O: Sink, R: Sink>(
 }
 
 /// The answer that tells a stop.
-fn answer_of(stop: Stop) -> Answer {
+fn answer_of(stop: Stop) -> Answer
+    ensures told { result ≡ stop_answer stop }
+{
     match stop {
         Stop::ReadFault => Answer::ReadFault,
         Stop::WriteFault => Answer::WriteFault,
@@ -324,7 +328,8 @@ fn answer_of(stop: Stop) -> Answer {
 
 /// Tells a stop, and gives its status, which is that of want of memory where there is none to tell it.
 fn stopped<R: Sink>(alloc: Global, stop: Stop, err: &mut R) -> u8
-    ensures { (result ≡ number_of_stop stop) ⊎ (result ≡ 6) }
+    ensures status { (result ≡ number_of_stop stop) ⊎ (result ≡ 6) }
+    ensures said { result ≢ 6 → Says (R.faults err.old) (R.written err.old) (R.faults err.new) (R.written err.new) (answer_text (stop_answer stop)) }
 {
     match tell(alloc, err, &answer_of(stop)) {
         Ok(()) => stop_number(stop),
@@ -369,11 +374,17 @@ pub fn run<F: Files, T: Tpm, E: Entropy, O: Sink, R: Sink>(
     ensures done { (m : Machine) → Tells (F.held files.old) (T.stored tpm.old) (E.words entropy.old) m → Safe (run_line words.now m).hashed → IsNoScript (request_of words.now None) → result ≡ 5
         → ¬ Rose (F.faults files.old) (F.faults files.new) → ¬ Rose (E.faults entropy.old) (E.faults entropy.new) → ¬ Rose (T.faults tpm.old) (T.faults tpm.new)
         → StandsAt (F.held files.new) (T.stored tpm.new) (run_line words.now m).after }
+    // The strings that the definition hashes stand among those of the world after the run.
+    ensures premise { (m : Machine) (w : World) → AreHashed (run_world words.now m w) (run_line words.now m).hashed }
     // A world that is tied to the stored state is tied again, with each object that was enrolled.
     ensures kept { (m : Machine) (w : World) → IsTied m.device w → IsTied (run_line words.now m).after.device (run_world words.now m w) }
     // Each `unseal` prints the key of an object of the world exactly where the PCR holds the value that
     // the key was sealed to.
     ensures headline { (m : Machine) (w : World) → IsTied m.device w → Safe (run_world words.now m w).hashed → RunIsExact words.now m w }
+    // A call of `unseal` gives 0 and prints the key exactly where the PCR holds the value that the key was
+    // sealed to, and else prints nothing.
+    ensures opens { (m : Machine) (w : World) → Tells (F.held files.old) (T.stored tpm.old) (E.words entropy.old) m → IsTied m.device w → Safe (run_world words.now m w).hashed → result ≢ 5 → result ≢ 6
+        → CallIsExact (token_spelled (request_of words.now None)) m w result (O.written out.old) (O.written out.new) }
     ensures bounded { result ≤ 7 }
 {
     match run_words(alloc, words, files, tpm, entropy, out, err) {

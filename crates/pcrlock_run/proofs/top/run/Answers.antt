@@ -2,6 +2,8 @@ use Rattle.std.proofs.Common.{◌∙◌, ap}
 use Rattle.pcrlock_run.proofs.Widened.{fault_cause}
 use Rattle.pcrlock_run.proofs.Kept.{run_kept}
 use Rattle.pcrlock_run.proofs.Exact.{run_exact}
+use Rattle.pcrlock_run.proofs.Premise.{run_hashed, run_safe}
+use Rattle.pcrlock_run.proofs.Printed.{run_call}
 use Rattle.pcrlock_run.proofs.top.run.Goals as goal
 
 pub returns-in-Ok-clause-told : goal.returns-in-Ok-clause-told
@@ -15,6 +17,17 @@ returns-in-Ok-clause-kept g c = λ m w t. run_kept c.args.words.now m w t
 pub returns-in-Ok-clause-headline : goal.returns-in-Ok-clause-headline
 returns-in-Ok-clause-headline g c = λ m w t safe. run_exact c.args.words.now m w t safe
 
+pub returns-in-Ok-clause-premise : goal.returns-in-Ok-clause-premise
+returns-in-Ok-clause-premise g c = λ m w. run_hashed c.args.words.now m w
+
+pub returns-in-Ok-clause-opens : goal.returns-in-Ok-clause-opens
+returns-in-Ok-clause-opens g c = λ m w t tied safe no_fault no_want.
+    let l = c.in-Ok.ensures.told m t (run_safe c.args.words.now m w safe) in
+    run_call c.args.words.now m w _ _ _ tied safe (c.number.ensures ∙ l.status) l.out
+
+pub returns-in-Err-clause-premise : goal.returns-in-Err-clause-premise
+returns-in-Err-clause-premise g c = λ m w. run_hashed c.args.words.now m w
+
 pub returns-in-Err-clause-kept : goal.returns-in-Err-clause-kept
 returns-in-Err-clause-kept g c = λ m w t. run_kept c.args.words.now m w t
 
@@ -22,4 +35,4 @@ pub returns-in-Err-clause-headline : goal.returns-in-Err-clause-headline
 returns-in-Err-clause-headline g c = λ m w t safe. run_exact c.args.words.now m w t safe
 
 pub returns-in-Err-clause-faults : goal.returns-in-Err-clause-faults
-returns-in-Err-clause-faults g c = λ five. fault_cause _ _ c.run_words.result c.in-Err.stop c.stopped.result c.run_words.ensures.causes c.in-Err.is c.stopped.ensures five
+returns-in-Err-clause-faults g c = λ five. fault_cause _ _ c.run_words.result c.in-Err.stop c.stopped.result c.run_words.ensures.causes c.in-Err.is c.stopped.ensures.status five
