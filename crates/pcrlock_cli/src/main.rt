@@ -3,6 +3,9 @@
 //! is kept in the state file, whose path is the first word.
 #![tactic(auto)]
 
+ghost use Rattle.std.specs.Prelude.{◌≡◌, IfOk};
+ghost use Rattle.pcrlock_cli.specs.Process.{refusal_line, refusal_status, state_path_of};
+
 use pcrlock_run::run;
 use pl_base::{List, Memory, Name, RealEntropy, RealFiles, RealSink, Sink};
 use std::alloc::Global;
@@ -27,7 +30,9 @@ impl From<Memory> for Refusal {
 
 impl Refusal {
     /// The line on standard error.
-    fn line(&self) -> &'static [u8] {
+    fn line(&self) -> &'static [u8]
+        ensures { result.now ≡ refusal_line self.now }
+    {
         match self {
             Refusal::BadWords => b"bad words\n",
             Refusal::Memory => b"no memory\n",
@@ -35,7 +40,9 @@ impl Refusal {
     }
 
     /// The exit status.
-    fn status(&self) -> u8 {
+    fn status(&self) -> u8
+        ensures { result ≡ refusal_status self.now }
+    {
         match self {
             Refusal::BadWords => 2,
             Refusal::Memory => 6,
@@ -65,7 +72,9 @@ fn words(rt: &HostRuntime) -> Result<List<Name>, Refusal> {
 }
 
 /// The path of the state file: the first word, or an empty one where there is none.
-fn state_path(alloc: Global, words: &[Name]) -> Result<Name, Memory> {
+fn state_path(alloc: Global, words: &[Name]) -> Result<Name, Memory>
+    ensures { IfOk result (λ path. path ≡ state_path_of words.now) }
+{
     match words.first() {
         Some(path) => path.copy(alloc),
         None => Name::from_text(alloc, ""),

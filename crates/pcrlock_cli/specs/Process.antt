@@ -1,0 +1,21 @@
+-- What the program does before it runs its words.
+use Rattle.std.specs.Prelude.{ℕ, List, [], ◌∷◌}
+use Rattle.pcrlock_words.specs.declared.answer.Answer.TheVariants as answers
+use Rattle.pcrlock_words.specs.Texts.{answer_text}
+use Rattle.pcrlock_cli.specs.declared.Refusal.{Refusal}
+use Rattle.pcrlock_cli.specs.declared.Refusal.TheVariants.{BadWords, Memory}
+
+-- the path of the state file: the first word, or an empty one where there is none
+abbrev pub state_path_of : List (List ℕ) → List ℕ
+state_path_of [] = []
+state_path_of (path ∷ words) = path
+
+-- the line on standard error where the words can't be run: that of the answer of the same name
+abbrev pub refusal_line : Refusal → List ℕ
+refusal_line BadWords = answer_text answers.BadWords
+refusal_line Memory = answer_text answers.Memory
+
+-- the exit status then
+abbrev pub refusal_status : Refusal → ℕ
+refusal_status BadWords = 2
+refusal_status Memory = 6
