@@ -4,12 +4,8 @@ use Rattle.std.proofs.lemmas.List.{drop_all, drop_more}
 use Rattle.hash_bank.specs.declared.bank.Bank.{Bank}
 use Rattle.policy_digest.specs.declared.table.Row.{Row}
 use Rattle.policy_digest.specs.Plain.{plain_row}
-use Rattle.policy_digest.specs.PlainTable.{leaves_of, root_after, top_of_row}
-use Rattle.or_tree.specs.Plan.{RowPlan, rows_after}
-
--- a row's plan
-abbrev pub planned : Bank → List ℕ → Row → RowPlan
-planned bank before row = record { pcrs = row.pcrs; leaves = leaves_of bank before (plain_row row) }
+use Rattle.policy_digest.specs.PlainTable.{root_after, top_of_row}
+use Rattle.or_tree.specs.Plan.{RowPlan, row_plan, rows_after}
 
 module _ (bank : Bank) (rows : List Row) (before : List ℕ) where
   -- the rows that are left begin with this one
@@ -18,7 +14,7 @@ module _ (bank : Bank) (rows : List Row) (before : List ℕ) where
 
   -- one row more
   pub more_rows : (so_far now : List RowPlan) (whole : List RowPlan) (i : ℕ) (row : Row) (top : List ℕ) → i < length rows → row ≡ get_or rows i row
-      → whole ≡ so_far ++ rows_after bank before (map plain_row (drop i rows)) → now ≡ so_far ++ planned bank before row ∷ []
+      → whole ≡ so_far ++ rows_after bank before (map plain_row (drop i rows)) → now ≡ so_far ++ row_plan bank before (plain_row row) ∷ []
       → top ≡ top_of_row bank before (plain_row row)
       → whole ≡ now ++ rows_after bank top (map plain_row (drop (i + 1) rows))
   unfolding rows_after
@@ -26,8 +22,8 @@ module _ (bank : Bank) (rows : List Row) (before : List ℕ) where
       let rest = rows_after bank top (map plain_row (drop (i + 1) rows)) in
       all
       ∙ ap (λ left_rows. so_far ++ rows_after bank before left_rows) (left i row inside e)
-      ∙ ap (λ t. so_far ++ planned bank before row ∷ rows_after bank t (map plain_row (drop (i + 1) rows))) (sym same)
-      ∙ sym (append_assoc so_far (planned bank before row ∷ []) rest)
+      ∙ ap (λ t. so_far ++ row_plan bank before (plain_row row) ∷ rows_after bank t (map plain_row (drop (i + 1) rows))) (sym same)
+      ∙ sym (append_assoc so_far (row_plan bank before (plain_row row) ∷ []) rest)
       ∙ ap (λ front. front ++ rest) (sym pushed)
 
   pub next_root : (whole : List ℕ) (i : ℕ) (row : Row) (top : List ℕ) → i < length rows → row ≡ get_or rows i row

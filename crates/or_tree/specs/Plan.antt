@@ -16,11 +16,15 @@ pub record Plan : Type 0 where
   pub rows : List RowPlan
   pub root : List ℕ
 
+-- a row behind the policy of the rows before it
+abbrev pub row_plan : Bank → List ℕ → PlainRow → RowPlan
+row_plan bank before row = record { pcrs = row.pcrs; leaves = leaves_of bank before row }
+
 -- the rows, where the policy before them is given
 unfoldable pub rows_after : Bank → List ℕ → List PlainRow → List RowPlan
 rows_after bank before [] = []
 rows_after bank before (row ∷ rows) =
-    record { pcrs = row.pcrs; leaves = leaves_of bank before row } ∷ rows_after bank (top_of_row bank before row) rows
+    row_plan bank before row ∷ rows_after bank (top_of_row bank before row) rows
 
 -- the branches of a table: the first row's leaves stand on zeros
 abbrev pub plan_of : PlainTable → Plan

@@ -25,17 +25,21 @@ pub struct OrPlan {
 }
 
 impl Model for OrPlan {
-    ghost use Rattle.std.specs.Prelude.{◌≤◌, length};
+    ghost use Rattle.std.specs.Prelude.{◌≡◌, ◌≤◌, length};
     ghost use Rattle.or_tree.specs.Plan.{Plan};
 
     ghost Value = { Plan };
 
     ghost view = { λ p. record { bank = p.bank; rows = p.rows; root = p.root } };
 
-    ghost invariant = { λ p. length p.rows ≤ 24 };
+    ghost invariant = { λ p. (length p.rows ≤ 24) × (length p.root ≡ 32) };
 }
 
 /// The branches of a table.
+///
+/// # Errors
+///
+/// Want of memory.
 pub fn build(alloc: Global, table: &Table) -> Result<OrPlan, Memory>
     requires { valid_table table.now ≡ true }
     ensures { IfOk result (λ plan. plan ≡ plan_of (plain_table table.now)) }
@@ -65,7 +69,8 @@ impl OrPlan {
 
     /// The policy of the whole table, of 32 bytes.
     pub fn root(&self) -> Digest
-        ensures { result ≡ self.now.root }
+        ensures value { result ≡ self.now.root }
+        ensures size { length result ≡ 32 }
     {
         self.root
     }
@@ -125,6 +130,10 @@ impl OrPlan {
     }
 
     /// The lists of the PolicyORs from a leaf up to the top: the groups of two digests or more.
+    ///
+    /// # Errors
+    ///
+    /// Want of memory.
     pub fn path(&self, alloc: Global, row: u32, leaf: u32) -> Result<List<Group>, Memory>
         requires row { row < length self.now.rows }
         requires leaf { leaf < length (leaves_at self.now row) }

@@ -3,6 +3,7 @@ ghost use Rattle.std.specs.Prelude.{◌≡◌, ℕ, ◌+◌, ◌*◌, ◌/◌, �
 ghost use Rattle.std.specs.List.{All};
 ghost use Rattle.std.specs.Str.{bytes_eq};
 ghost use Rattle.or_tree.specs.Branching.{joined as joined_in, joined_levels as joined_levels_of, level_at};
+ghost use Rattle.or_tree.specs.Plan.{row_plan};
 ghost use Rattle.policy_digest.specs.Levels.{group, group_count, listed, path_of, top_of_leaves};
 ghost use Rattle.policy_digest.specs.Plain.{plain_row};
 ghost use Rattle.policy_digest.specs.PlainTable.{leaf_of, leaves_of};
@@ -27,7 +28,7 @@ fn leaf(bank: Bank, before: &Digest, pcrs: u32, values: &Values) -> Digest
 }
 
 /// The leaves of a row, one for each of its lists.
-pub(crate) fn leaves(
+fn leaves(
     alloc: Global,
     bank: Bank,
     before: &Digest,
@@ -100,7 +101,7 @@ impl Branches {
     ) -> Result<Branches, Memory>
         requires before_fits { length before.now ≡ 32 }
         requires valid { valid_row bank row.now ≡ true }
-        ensures { IfOk result (λ branches. branches ≡ record { pcrs = row.now.pcrs; leaves = leaves_of bank before.now (plain_row row.now) }) }
+        ensures { IfOk result (λ branches. branches ≡ row_plan bank before.now (plain_row row.now)) }
     {
         let leaves = leaves(alloc, bank, before, row)?;
         let second = next_level(alloc, leaves.as_slice())?;
