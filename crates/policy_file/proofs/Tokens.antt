@@ -77,7 +77,7 @@ hash_takes bytes hash e =
 numbered : (number n : ℕ) (bank known : Bank) → algorithm_in known ≡ n → eqb number n ≡ true → Some known ≡ Some bank → number ≡ algorithm_in bank
 numbered number n bank known has is same = let k : known ≡ bank = cc in eqb-true number n is ∙ sym has ∙ ap algorithm_in k
 
-bank_is : (number : ℕ) (bank : Bank) → bank_of_algorithm number ≡ Some bank → number ≡ algorithm_in bank
+pub bank_is : (number : ℕ) (bank : Bank) → bank_of_algorithm number ≡ Some bank → number ≡ algorithm_in bank
 bank_is number bank e =
     elim (chosen (eqb number 4) (Some Sha1) (cond (eqb number 11) (Some Sha256) (cond (eqb number 12) (Some Sha384) (cond (eqb number 13) (Some Sha512) None))) (Some bank) e) [
       | inl t ↦ numbered number 4 bank Sha1 refl t.0 t.1

@@ -1,4 +1,8 @@
 //! Why a file is refused.
+ghost use Rattle.std.specs.Prelude.{◌≡◌};
+ghost use Rattle.policy_file.specs.declared.error.FileError.TheVariants.{Memory as NoMemory};
+
+use std::alloc::AllocFailed;
 
 /// What is wrong with a field of a file.
 #[derive(Clone, Copy, Debug, PartialEq, Eq)]
@@ -26,4 +30,20 @@ pub enum FileError {
     },
     /// There was no memory for the value. A token is read without memory.
     Memory,
+}
+
+impl<T: Drop> From<AllocFailed<T>> for FileError {
+    ghost from_gives = { λ _ e. e ≡ NoMemory };
+
+    fn from(_failed: AllocFailed<T>) -> FileError {
+        FileError::Memory
+    }
+}
+
+impl From<pl_base::Memory> for FileError {
+    ghost from_gives = { λ _ e. e ≡ NoMemory };
+
+    fn from(_memory: pl_base::Memory) -> FileError {
+        FileError::Memory
+    }
 }

@@ -1,34 +1,15 @@
 //! Writing a token file.
 
 ghost use Rattle.std.specs.Prelude.{◌≡◌, ◌++◌, ◌≤◌, IfOk, OnOk, Ok};
-ghost use Rattle.std.specs.Int.{w16, w32, to_be_bytes};
 ghost use Rattle.policy_file.specs.TokenText.{IsToken, NamesLiteral, IsLiteral, literal_kind, literal_text, token_text};
 ghost use Rattle.policy_file.specs.TokenReading.{token_in};
 
 use crate::token::{Literal, Token};
 use crate::token_reading::TOKEN_MAGIC;
-use byteorder::{BigEndian, ByteOrder};
 use hash_bank::Bank;
 use pl_base::Memory;
+use pl_layout::{put_u16, put_u32};
 use std::alloc::Global;
-
-fn put_16(out: &mut Vec<u8>, number: u16) -> Result<(), Memory>
-    ensures { OnOk result (out.new.items ≡ out.old.items ++ to_be_bytes w16 number) }
-{
-    let mut digits = [0; 2];
-    BigEndian::write_u16(&mut digits, number);
-    out.extend_from_slice(&digits)?;
-    Ok(())
-}
-
-fn put_32(out: &mut Vec<u8>, number: u32) -> Result<(), Memory>
-    ensures { OnOk result (out.new.items ≡ out.old.items ++ to_be_bytes w32 number) }
-{
-    let mut digits = [0; 4];
-    BigEndian::write_u32(&mut digits, number);
-    out.extend_from_slice(&digits)?;
-    Ok(())
-}
 
 fn kind_of(literal: &Literal) -> u8
     requires { IsLiteral literal.now }
@@ -45,7 +26,7 @@ fn kind_of(literal: &Literal) -> u8
 fn put_literal(out: &mut Vec<u8>, literal: &Literal) -> Result<(), Memory>
     ensures { OnOk result (out.new.items ≡ out.old.items ++ literal_text literal.now) }
 {
-    put_16(out, literal.bank.algorithm())?;
+    put_u16(out, literal.bank.algorithm())?;
     out.push(literal.pcr)?;
     out.extend_from_slice(literal.value.as_slice())?;
     Ok(())
@@ -61,7 +42,7 @@ fn put_token(alloc: Global, token: &Token) -> Result<Vec<u8>, Memory>
         Token::Literal { object, literal } => {
             let mut out = Vec::with_capacity(alloc, 16 + literal.bank.size())?;
             out.extend_from_slice(&TOKEN_MAGIC)?;
-            put_32(&mut out, *object)?;
+            put_u32(&mut out, *object)?;
             out.push(kind_of(literal))?;
             put_literal(&mut out, literal)?;
             Ok(out)
