@@ -28,12 +28,7 @@ fn leaf(bank: Bank, before: &Digest, pcrs: u32, values: &Values) -> Digest
 }
 
 /// The leaves of a row, one for each of its lists.
-fn leaves(
-    alloc: Global,
-    bank: Bank,
-    before: &Digest,
-    row: &Row,
-) -> Result<List<Digest>, Memory>
+fn leaves(alloc: Global, bank: Bank, before: &Digest, row: &Row) -> Result<List<Digest>, Memory>
     requires before_fits { length before.now ≡ 32 }
     requires pcrs_fit { row.now.pcrs < 2 ^ 24 }
     ensures value { IfOk result (λ leaves. leaves ≡ leaves_of bank before.now (plain_row row.now)) }
