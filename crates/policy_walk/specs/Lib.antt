@@ -1,0 +1,5 @@
+pub mod Places
+pub mod Paths
+pub mod Walking
+pub mod States
+pub mod Choosing
