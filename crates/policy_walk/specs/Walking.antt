@@ -105,7 +105,7 @@ walked_by p response = behind_step p.plan p.index p.session p.row p.step respons
 
 -- ---- behind the rows
 
--- a refusal of PolicyAuthorizeNV: the table isn't the one that the index holds, the index isn't there or was
+-- a refusal of PolicyAuthorizeNV: the session's digest isn't what the index holds, the index isn't there or was
 -- never written
 abbrev pub why_authorised : ℕ → Refusal → Why
 why_authorised session refusal.Value = why.NotNewest

@@ -377,17 +377,25 @@ fn a_walk_stops_and_ends_its_session(rt: HostRuntime) -> Result<(), Fail> {
 }
 
 #[test]
-fn the_newest_table_in_force_is_taken(rt: HostRuntime) -> Result<(), Fail> {
+fn the_table_that_the_index_holds_is_taken(rt: HostRuntime) -> Result<(), Fail> {
     let alloc = rt.alloc();
     let older = table(alloc, 1, 2, 0)?;
     let newer = table(alloc, 1, 3, 0)?;
-    let held = content(alloc, &older)?;
+    let held = [content(alloc, &older)?, content(alloc, &newer)?];
     let other = content(alloc, &table(alloc, 1, 4, 0)?)?;
     let is_valid = older.is_valid() && newer.is_valid();
     assert!(rt; is_valid);
     let root = build(alloc, &newer)?.root();
     let tables = [older, newer];
-    assert!(rt; prepare(alloc, &tables, INDEX, &held).is_ok());
+    for content in held {
+        let mut state = machine(alloc, &content)?;
+        let mut letters = Vec::new(alloc);
+        let Ok(prepared) = prepare(alloc, &tables, INDEX, &content) else {
+            return Err("refused")?;
+        };
+        let outcome = walk(alloc, &mut state, &mut letters, prepared)?;
+        assert_eq!(rt; outcome, Outcome::Key);
+    }
     let refused = prepare(alloc, &tables, INDEX, &other);
     assert!(rt; is_outdated(&refused, &other, &root));
     Ok(())

@@ -2,7 +2,8 @@
 use hash_bank::{Bank, Digest};
 
 /// Why a client's walk on a session stopped before the key. Its cause is named by the TPM (TPM 2.0 Library Part
-/// 3, the command named), but for `NotForeseen`, which a client tells by the session's digest.
+/// 3, the command named), but for `NotForeseen`, which a client tells by the session's digest. Where another gives
+/// commands on the session, `NotForeseen`, `NotNewest` and `WrongBinding` can come by that alone.
 #[derive(Clone, Copy, Debug)]
 pub enum Why {
     /// No list of the row allows the values of the mask's PCRs.
