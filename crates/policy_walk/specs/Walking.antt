@@ -122,7 +122,7 @@ authorised_by p other = Ok p
 abbrev pub why_kept : ℕ → ℕ → Refusal → Why
 why_kept session object (refusal.PcrChanged noted now) = why.PcrChanged noted now
 why_kept session object (refusal.PolicyFail digest policy) = why.WrongBinding digest policy
-why_kept session object (refusal.Handle handle) = if handle == object then why.NoObject object else why.SessionGone session
+why_kept session object (refusal.Handle handle) = if handle == session then why.SessionGone session else why.NoObject object
 why_kept session object other = why.SessionGone session
 
 -- the secret, or why it was kept

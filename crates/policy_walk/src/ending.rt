@@ -11,8 +11,8 @@ use pl_base::Small;
 use std::marker::Model;
 use tpm_model::{Command, Refusal, Response};
 
-/// A walk past all rows: the session's digest is the table's root. Contracts see the table with its branches, the
-/// index and the session.
+/// A walk past all rows: where nobody else used the session, its digest is the table's root. Contracts see the table
+/// with its branches, the index and the session.
 #[derive(Debug, Drop)]
 pub struct Branched {
     pub(crate) plan: OrPlan,
@@ -28,8 +28,8 @@ impl Model for Branched {
     ghost view = { λ b. record { plan = b.plan; index = b.index; session = b.session } };
 }
 
-/// A session that the index authorised: the object opens to it. Contracts see the table with its branches, the index
-/// and the session.
+/// A session that the index authorised: an object that is bound to the index opens to it, unless a PCR was extended
+/// or another used the session since. Contracts see the table with its branches, the index and the session.
 #[derive(Debug, Drop)]
 pub struct Authorised {
     plan: OrPlan,
@@ -81,10 +81,10 @@ fn why_kept(session: u32, object: u32, refusal: &Refusal) -> Why
             object: *object,
         },
         Refusal::Handle(handle) => {
-            if *handle == object {
-                Why::NoObject(object)
-            } else {
+            if *handle == session {
                 Why::SessionGone(session)
+            } else {
+                Why::NoObject(object)
             }
         }
         _ => Why::SessionGone(session),

@@ -7,7 +7,8 @@ use crate::why::Why;
 use tpm_model::{Command, Response};
 
 /// A session that is at its end, and why, where it didn't give the key. It is spent by `flush` once its command was
-/// answered, or by `give_up` where no answer comes; it can't be let go otherwise.
+/// answered, or by `give_up` where no answer comes or its holder keeps the command and the reason; it can't be let
+/// go otherwise.
 #[derive(Debug)]
 pub struct Stopped {
     pub(crate) session: u32,
@@ -31,14 +32,15 @@ impl Stopped {
         }
     }
 
-    /// Spends the state with the answer to its command: the session is ended, by it or by another.
+    /// Spends the state with the answer to its command: the session is ended, by it or before.
     pub fn flush(self, _response: &Response)
         requires { fits (command.FlushSession self.session) _response.now ≡ true }
     {
         self.give_up();
     }
 
-    /// Spends the state where no answer to its command comes. The session may stay open.
+    /// Spends the state where no answer to its command comes, or where its holder keeps the command and the reason.
+    /// The session may stay open.
     pub fn give_up(self) {
         let Stopped { session: _, why: _ } = self;
     }

@@ -13,11 +13,13 @@ pub enum Why {
     PcrChanged { noted: u32, now: u32 },
     /// The bank isn't present (TPM2_PolicyPCR).
     BankAbsent(Bank),
-    /// The session was ended by another; its handle.
+    /// The session isn't there any more: another ended it, or the TPM was restarted; its handle.
     SessionGone(u32),
-    /// Another used the session: its digest is none of the list, or its trail is full (TPM2_PolicyOR).
+    /// Another used the session: its digest is none of the list (TPM2_PolicyOR), or its trail is full (each policy
+    /// command).
     Interfered,
-    /// The index holds another table's root by now (TPM2_PolicyAuthorizeNV).
+    /// The index's content isn't that of the session's digest: another table was put in force
+    /// (TPM2_PolicyAuthorizeNV).
     NotNewest,
     /// The index isn't there (TPM2_PolicyAuthorizeNV).
     NoIndex,
