@@ -4,6 +4,7 @@
 #![tactic(auto)]
 
 ghost use Rattle.std.specs.Prelude.{◌≡◌, IfOk};
+ghost use Rattle.pcrlock_cli.specs.declared.Refusal.TheVariants.{Memory as NoMemory};
 ghost use Rattle.pcrlock_cli.specs.Process.{refusal_line, refusal_status, state_path_of};
 
 use pcrlock_run::run;
@@ -23,6 +24,8 @@ enum Refusal {
 }
 
 impl From<Memory> for Refusal {
+    ghost from_gives = { λ _ refusal. refusal ≡ NoMemory };
+
     fn from(_error: Memory) -> Refusal {
         Refusal::Memory
     }
@@ -105,7 +108,9 @@ fn run_process<O: Sink, R: Sink>(
 }
 
 /// Tells a refusal, and gives the exit status.
-fn refuse<R: Sink>(alloc: Global, refusal: &Refusal, err: &mut R) -> u8 {
+fn refuse<R: Sink>(alloc: Global, refusal: &Refusal, err: &mut R) -> u8
+    ensures { result ≡ refusal_status refusal.now }
+{
     let _told = err.write_all(alloc, refusal.line());
     refusal.status()
 }
