@@ -1,9 +1,10 @@
 //! The branches of a table.
-ghost use Rattle.std.specs.Prelude.{◌≡◌, ◌/◌, ◌<◌, ◌≤◌, true, Some, length, position, slice_get, IfOk, IfSome};
+ghost use Rattle.std.specs.Prelude.{◌≡◌, ◌/◌, ◌<◌, ◌≤◌, true, [], Some, length, position, slice_get, slice_index_or, IfOk, IfSome};
 ghost use Rattle.std.specs.Str.{bytes_eq};
 ghost use Rattle.or_tree.specs.Branching.{joined_levels, level_at};
+ghost use Rattle.or_tree.specs.Leading.{Leads};
 ghost use Rattle.or_tree.specs.Plan.{leaves_at, pcrs_at, plan_of};
-ghost use Rattle.policy_digest.specs.Levels.{group, path_of};
+ghost use Rattle.policy_digest.specs.Levels.{group, path_of, top_of_leaves};
 ghost use Rattle.policy_digest.specs.Plain.{plain_table};
 ghost use Rattle.policy_digest.specs.Table.{valid_table};
 
@@ -129,7 +130,9 @@ impl OrPlan {
         self.row(row).group(level, place)
     }
 
-    /// The lists of the PolicyORs from a leaf up to the top: the groups of two digests or more.
+    /// The lists of the PolicyORs from a leaf up to the top, at most three: the groups of two digests or more. The
+    /// first holds the leaf, each other holds what the PolicyOR of the one before gives, and that of the last gives
+    /// the row's top; where there is none, the leaf is the top.
     ///
     /// # Errors
     ///
@@ -137,7 +140,9 @@ impl OrPlan {
     pub fn path(&self, alloc: Global, row: u32, leaf: u32) -> Result<List<Group>, Memory>
         requires row { row < length self.now.rows }
         requires leaf { leaf < length (leaves_at self.now row) }
-        ensures { IfOk result (λ path. path ≡ path_of (leaves_at self.now row) leaf) }
+        ensures value { IfOk result (λ path. path ≡ path_of (leaves_at self.now row) leaf) }
+        ensures leads { IfOk result (λ path. Leads (slice_index_or (leaves_at self.now row) leaf []) path (top_of_leaves (leaves_at self.now row))) }
+        ensures few { IfOk result (λ path. length path ≤ 3) }
     {
         self.row(row).path(alloc, leaf as usize)
     }

@@ -1,8 +1,9 @@
 //! The branches of one row.
-ghost use Rattle.std.specs.Prelude.{◌≡◌, ℕ, ◌+◌, ◌*◌, ◌/◌, ◌<◌, ◌≤◌, ◌^◌, true, List as Sequence, ◌++◌, length, map, position, IfOk};
+ghost use Rattle.std.specs.Prelude.{◌≡◌, ℕ, ◌+◌, ◌*◌, ◌/◌, ◌<◌, ◌≤◌, ◌^◌, true, List as Sequence, [], ◌++◌, length, map, position, slice_index_or, IfOk};
 ghost use Rattle.std.specs.List.{All};
 ghost use Rattle.std.specs.Str.{bytes_eq};
 ghost use Rattle.or_tree.specs.Branching.{joined as joined_in, joined_levels as joined_levels_of, level_at};
+ghost use Rattle.or_tree.specs.Leading.{Leads};
 ghost use Rattle.or_tree.specs.Plan.{row_plan};
 ghost use Rattle.policy_digest.specs.Levels.{group, group_count, listed, path_of, top_of_leaves};
 ghost use Rattle.policy_digest.specs.Plain.{plain_row};
@@ -167,9 +168,12 @@ impl Branches {
     }
 
     /// The groups of two or more from a leaf up to the top.
+    #[tactic(auto, using(crate::proofs::Leading::leads, crate::proofs::Leading::few_lists))]
     pub(crate) fn path(&self, alloc: Global, leaf: usize) -> Result<List<Group>, Memory>
         requires { leaf < length self.now.leaves }
-        ensures { IfOk result (λ path. path ≡ path_of self.now.leaves leaf) }
+        ensures value { IfOk result (λ path. path ≡ path_of self.now.leaves leaf) }
+        ensures leads { Leads (slice_index_or self.now.leaves leaf []) (path_of self.now.leaves leaf) (top_of_leaves self.now.leaves) }
+        ensures few { IfOk result (λ path. length path ≤ 3) }
     {
         let mut path = List::new(alloc);
         list_group(&mut path, self.leaves.as_slice(), leaf / GROUP)?;

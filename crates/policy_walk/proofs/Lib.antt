@@ -1,2 +1,3 @@
 pub mod Branches
+pub mod Ends
 pub mod Plans

@@ -3,3 +3,4 @@ pub mod Paths
 pub mod Walking
 pub mod States
 pub mod Choosing
+pub mod Ends

@@ -1,4 +1,4 @@
-use Rattle.std.proofs.Common.{◌≡◌, ◌+◌, List, [], ◌∷◌, ◌++◌, ap, sym, subst, ◌∙◌, rules}
+use Rattle.std.proofs.Common.{[], ◌∷◌, ◌++◌, ap, sym, ◌∙◌}
 use Rattle.policy_digest.specs.Levels.{up}
 use Rattle.or_tree.proofs.Groups.{pushed_sizes, raised_groups, raised_more}
 use Rattle.or_tree.proofs.level.next_level.Goals as goal

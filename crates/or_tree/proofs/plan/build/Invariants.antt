@@ -1,6 +1,5 @@
 -- the rows so far, and the policy on which the next one stands
-use Rattle.std.proofs.Common.{◌≡◌, ◌≤◌, ◌++◌, length, map, drop}
-use Rattle.std.specs.Prelude.{true}
+use Rattle.std.proofs.Common.{◌≡◌, ◌++◌, length, map, drop}
 use Rattle.hash_bank.specs.declared.bank.Bank.TheVariants.{Sha256}
 use Rattle.hash_bank.specs.Hash.{zeros_in}
 use Rattle.policy_digest.specs.Plain.{plain_row}

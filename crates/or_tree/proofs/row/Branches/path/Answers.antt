@@ -1,4 +1,4 @@
-use Rattle.std.proofs.Common.{◌≡◌, ℕ, ◌/◌, ◌<◌, List, length, subst, sym}
+use Rattle.std.proofs.Common.{◌≡◌, ℕ, ◌/◌, ◌<◌, length, subst, sym}
 use Rattle.policy_digest.specs.Levels.{group_count}
 use Rattle.or_tree.specs.Plan.{RowPlan}
 use Rattle.or_tree.proofs.Groups.{second_place, third_place}

@@ -1,4 +1,4 @@
-use Rattle.std.proofs.Common.{◌≡◌, ◌≤◌, length, subst, sym, ap, ◌∙◌}
+use Rattle.std.proofs.Common.{◌≤◌, length, subst, sym, ap, ◌∙◌}
 use Rattle.policy_digest.specs.Levels.{top_of_leaves, up}
 use Rattle.or_tree.specs.Plan.{RowPlan}
 use Rattle.or_tree.proofs.Groups.{third_size, top_of_third}
