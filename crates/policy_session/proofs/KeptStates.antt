@@ -21,7 +21,7 @@ use Rattle.policy_session.proofs.StepAnswers.{starts, binds, flushes}
 alike : (s : Parts) → DiffersInSessions s s
 alike s = record { banks = refl; pcrs = refl; update_counter = refl; write_counter = refl; next_object = refl; indices = refl; objects = refl }
 
-open_alike : (x : Session) (s : Parts) → DiffersInSessions s (with_open x s)
+pub open_alike : (x : Session) (s : Parts) → DiffersInSessions s (with_open x s)
 unfolding with_open
 open_alike x s = record { banks = refl; pcrs = refl; update_counter = refl; write_counter = refl; next_object = refl; indices = refl; objects = refl }
 

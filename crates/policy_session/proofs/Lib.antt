@@ -1,6 +1,15 @@
 pub mod OneValue
+pub mod OpenSteps
+pub mod Rows
 pub mod Sessions
 pub mod StepAnswers
 pub mod KeptStates
 pub mod Answered
 pub mod Walks
+pub mod GoesOn
+pub mod Runs
+pub mod Turns
+pub mod Reading
+pub mod Starts
+pub mod BoundLaws
+pub mod IndexLaws

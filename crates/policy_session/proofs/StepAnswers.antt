@@ -60,7 +60,7 @@ pub found : (x : Session) (s : Parts) → HasRules s → x.handle ≡ session_ha
 found x s rules own = place_last 0x03000000 (session_handle s.next_session) s.sessions x
     (handles_from_test 0x03000000 (session_handle s.next_session) (map (λ (y : Session). y.handle) s.sessions) rules.session_order) own
 
-found_at : (x : Session) (s : Parts) → HasRules s → x.handle ≡ session_handle s.next_session → session_at (session_handle s.next_session) (s.sessions ++ x ∷ []) ≡ Some x
+pub found_at : (x : Session) (s : Parts) → HasRules s → x.handle ≡ session_handle s.next_session → session_at (session_handle s.next_session) (s.sessions ++ x ∷ []) ≡ Some x
 found_at x s rules own = ap (slice_get (s.sessions ++ x ∷ [])) (found x s rules own) ∙ get_last s.sessions x
 
 -- PolicyGetDigest
@@ -94,7 +94,7 @@ reads_value bank pcr now x s h e =
     low_enough : (p : ℕ) → p ≤ 23 → nat_lt 23 p ≡ false
     low_enough p h = grind arith
 
-same_noted : (n : ℕ) → noted_before (Some n) n ≡ None
+pub same_noted : (n : ℕ) → noted_before (Some n) n ≡ None
 same_noted n = ap (λ b. cond b None (Some n)) (eq-eqb n n refl)
 
 same_handle : (n : ℕ) → (n == n) ≡ true

@@ -3,3 +3,7 @@ pub mod Responses
 pub mod Kept
 pub mod OpenSession
 pub mod LiteralUnseal
+pub mod Ran
+pub mod IndexReads
+pub mod BoundUnseal
+pub mod Standing

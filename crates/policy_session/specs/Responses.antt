@@ -1,6 +1,6 @@
 -- What a client takes from the TPM's answers. An answer that no state gives at that place of a walk
 -- counts as want of memory.
-use Rattle.std.specs.Prelude.{ℕ, ◌==◌, if◌then◌else◌, List, Result, Ok, Err}
+use Rattle.std.specs.Prelude.{ℕ, ◌==◌, if◌then◌else◌, Bool, true, false, List, Result, Ok, Err}
 use Rattle.tpm_model.specs.declared.response.Response.{Response}
 use Rattle.tpm_model.specs.declared.response.Response.TheVariants as answer
 use Rattle.tpm_model.specs.declared.response.Refusal.TheVariants as refusal
@@ -41,3 +41,8 @@ unsealed object _ = Err error.Memory
 abbrev pub ended : Response → Result (Unit {0}) UnsealError
 ended answer.Done = Ok tt
 ended _ = Err error.Memory
+
+-- whether a command was done
+abbrev pub done : Response → Bool
+done answer.Done = true
+done _ = false

@@ -1,5 +1,5 @@
 //! The commands of a walk, each with what a client takes from its answer.
-ghost use Rattle.std.specs.Prelude.{◌≡◌, ℕ, ◌<◌, ◌≤◌, ◌^◌, true, List, Option, Some, Ok, Err, IfOk, IfErr};
+ghost use Rattle.std.specs.Prelude.{◌≡◌, ℕ, ◌<◌, ◌≤◌, ◌^◌, true, false, List, Option, Some, Ok, Err, IfOk, IfErr};
 ghost use Rattle.pl_base.specs.Faults.{HasCause};
 ghost use Rattle.policy_digest.specs.Policies.{IsPolicyHash};
 ghost use Rattle.policy_file.specs.TokenText.{IsLiteral};
@@ -11,7 +11,8 @@ ghost use Rattle.tpm_model.specs.Fits.{fits};
 ghost use Rattle.tpm_model.specs.Respond.{respond};
 ghost use Rattle.tpm_model.specs.Rules.{HasRules};
 ghost use Rattle.tpm_model.specs.Sessions.{object_at};
-ghost use Rattle.policy_session.specs.Answers.{is_answer as answers, Told};
+ghost use Rattle.policy_session.specs.Answers.{is_answer as answers, is_refusal, Told};
+ghost use Rattle.policy_session.specs.BoundUnseal.{IsNeverLiteral};
 ghost use Rattle.policy_session.specs.Kept.{IsKept, Stores};
 ghost use Rattle.policy_session.specs.LiteralUnseal.{opened_by, IsNeverForeseen};
 ghost use Rattle.policy_session.specs.OpenSession.{IsOpen, with_open, closed, fresh_in, start_answer, start_leaves, bind_answer, bind_leaves};
@@ -26,10 +27,16 @@ use tpm_device::{ExecError, Tpm};
 use tpm_model::{Command, Response};
 
 /// Asks the device, which stays ready until a failure.
-fn ask<T: Tpm>(alloc: Global, tpm: &mut T, command: &Command) -> Result<Response, UnsealError>
+pub(crate) fn ask<T: Tpm>(
+    alloc: Global,
+    tpm: &mut T,
+    command: &Command,
+) -> Result<Response, UnsealError>
     requires { T.ready tpm.old ≡ true }
     ensures cause { HasCause (T.faults tpm.old) (T.faults tpm.new) (result ≡ Err UnsealError.Failed) }
     ensures never { IfErr result IsNeverForeseen }
+    ensures unlike { IfErr result IsNeverLiteral }
+    ensures outside { IfErr result (λ error. is_refusal error ≡ false) }
     ensures readiness { answers result ≡ true → T.ready tpm.new ≡ true }
     ensures fitting { IfOk result (λ answer. fits command.now answer ≡ true) }
     ensures told { (s : Parts) → T.live tpm.old ≡ Some s → T.ready tpm.old ≡ true

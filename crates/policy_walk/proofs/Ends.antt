@@ -47,7 +47,7 @@ met_contains v (list ∷ lists) e = by_test (bytes_eq v list) refl (met_contains
         let rest = later (ap (λ b. (b || list_any (bytes_eq v) lists)) (sym here) ∙ e) in
         (suc rest.0, omega (arith, rest.1), rest.2)
 
-contains_met : (v : List ℕ) (lists : List (List ℕ)) (k : ℕ) → k < length lists → get_or lists k [] ≡ v → list_any (bytes_eq v) lists ≡ true
+pub contains_met : (v : List ℕ) (lists : List (List ℕ)) (k : ℕ) → k < length lists → get_or lists k [] ≡ v → list_any (bytes_eq v) lists ≡ true
 contains_met v [] k inside e = absurd (omega arith)
 contains_met v (list ∷ lists) zero inside e = ap (λ b. (b || list_any (bytes_eq v) lists)) ((bytes_eq-Decides v list).1 (sym e))
 contains_met v (list ∷ lists) (suc k) inside e = either_way (bytes_eq v list) (contains_met v lists k (omega (arith, inside)) e)
@@ -200,6 +200,24 @@ met_end bank values before [] few met = refl
 met_end bank values before (row ∷ rows) few met =
     passed bank values before row few.0 (λ after. client_end bank values after (rows_after bank (top_of_row bank before row) rows)) met.0
     ∙ met_end bank values (top_of_row bank before row) rows few.1 met.1
+
+-- a walk that ends past all rows has the root, whatever strings clash
+pub past_root : (bank : Bank) (values : ℕ → List ℕ) (before digest : List ℕ) (rows : List PlainRow) → HaveFewLists rows
+    → client_end bank values before (rows_after bank before rows) ≡ past_rows digest → digest ≡ root_after bank before rows
+unfolding rows_after root_after client_end
+past_root bank values before digest [] few e = cc
+past_root bank values before digest (row ∷ rows) few e =
+    by_leaf (leaf_at (plan bank values before row few.0 rest) (now bank values before row few.0 rest)) refl e (λ f. past_root bank values (top_of_row bank before row) digest rows few.1 f)
+  where
+    rest : List ℕ → End
+    rest after = client_end bank values after (rows_after bank (top_of_row bank before row) rows)
+
+    by_leaf : (o : Option ℕ) → leaf_at (plan bank values before row few.0 rest) (now bank values before row few.0 rest) ≡ o
+        → end_from (plan bank values before row few.0 rest) (now bank values before row few.0 rest) o rest ≡ past_rows digest
+        → (rest (top_of_row bank before row) ≡ past_rows digest → digest ≡ root_after bank (top_of_row bank before row) rows)
+        → digest ≡ root_after bank (top_of_row bank before row) rows
+    by_leaf None none f further = cc
+    by_leaf (Some leaf) found f further = further (sym (through_leaf bank values before row few.0 rest leaf found) ∙ f)
 
 -- at most four entries a row
 pub few_entries : (bank : Bank) (values : ℕ → List ℕ) (digest : List ℕ) (rows : List RowPlan) → client_entries bank values digest rows ≤ 4 * length rows

@@ -156,6 +156,13 @@ fn prepare_by_two(
 }
 
 impl Prepared {
+    /// The bank of the table's values.
+    pub fn bank(&self) -> Bank
+        ensures { result ≡ self.now.plan.bank }
+    {
+        self.plan.bank()
+    }
+
     /// StartAuthSession with SHA-256.
     pub fn command(&self) -> Command
         ensures { result ≡ command.StartSession Sha256 }
