@@ -110,5 +110,5 @@ plan_fits table valid =
     let c = and_parts (nat_le 1 (length table.rows)) (nat_le (length table.rows) 24) b.0 in
     let few : length table.rows ≤ 24 = leb-true _ _ c.1 in
     let long : length (plan_of (plain_table table)).rows ≡ length table.rows =
-        rows_length table.bank (zeros_in Sha256) (map plain_row table.rows) ∙ length-map table.rows plain_row in
+    rows_length table.bank (zeros_in Sha256) (map plain_row table.rows) ∙ length-map table.rows plain_row in
     record { few = omega (arith, few, long); rows = rows_fit table.bank (zeros_in Sha256) table.rows b.1 }

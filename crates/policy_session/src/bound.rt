@@ -136,7 +136,11 @@ fn close<T: Tpm>(
         Ok(response) => {
             let ended = is_done(&response);
             stopped.flush(&response);
-            if ended { answer } else { Err(UnsealError::Memory) }
+            if ended {
+                answer
+            } else {
+                Err(UnsealError::Memory)
+            }
         }
         Err(error) => {
             stopped.give_up();

@@ -3,6 +3,8 @@
 #![tactic(auto)]
 
 mod bound;
+#[cfg(test)]
+mod bound_tests;
 mod error;
 mod index;
 mod literal;
@@ -18,6 +20,6 @@ pub use crate::index::{IndexError, read_index};
 pub use crate::literal::unseal_literal;
 pub use policy_file::Literal;
 pub use policy_walk::{
-    Authorised, Branched, Finished, PrepareError, Prepared, StartRefusal, Started, Stopped, Walk, Why,
-    prepare,
+    Authorised, Branched, Finished, PrepareError, Prepared, StartRefusal, Started, Stopped, Walk,
+    Why, prepare,
 };

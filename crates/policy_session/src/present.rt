@@ -23,12 +23,7 @@ use tpm_model::Command;
 const PCRS: u8 = 24;
 
 /// Reads a PCR's value while a session is open.
-fn read_pcr<T: Tpm>(
-    alloc: Global,
-    tpm: &mut T,
-    bank: Bank,
-    pcr: u8,
-) -> Result<Digest, UnsealError>
+fn read_pcr<T: Tpm>(alloc: Global, tpm: &mut T, bank: Bank, pcr: u8) -> Result<Digest, UnsealError>
     requires readiness { T.ready tpm.old ≡ true }
     requires pcr { pcr ≤ 23 }
     ensures cause { HasCause (T.faults tpm.old) (T.faults tpm.new) (result ≡ Err UnsealError.Failed) }
