@@ -1,0 +1,6 @@
+pub mod RawRecord
+pub mod EarlyLate
+pub mod Lock
+pub mod Split
+pub mod Parting
+pub mod FileText

@@ -1,0 +1,17 @@
+//! Component files (systemd.pcrlock(5)) that are made from what a machine measured: the firmware's
+//! records before and after the separators of their PCRs, or one record of some bytes.
+#![tactic(auto)]
+
+mod error;
+mod locked;
+mod locking;
+mod marks;
+mod parting;
+mod raw_record;
+mod text;
+
+pub use error::LockError;
+pub use locked::Locked;
+pub use locking::lock_firmware;
+pub use raw_record::raw;
+pub use text::component_text;
