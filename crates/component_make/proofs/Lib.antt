@@ -1,3 +1,5 @@
 pub mod Rows
 pub mod Flags
 pub mod Parts
+pub mod LineFeed
+pub mod FileData

@@ -1,9 +1,8 @@
 -- What was measured into one PCR, in three parts: before its first separator, that separator, and behind it.
-use Rattle.std.proofs.Common.{◌≡◌, ℕ, suc, Bool, true, false, cond, eqb, not, ◌&&◌, ◌||◌, List, [], ◌∷◌, ◌++◌, length, map, Option, Some, None, refl, sym, ap, ap₂, ◌∙◌, subst, inl, inr, ◌⊎◌}
+use Rattle.std.proofs.Common.{◌≡◌, ℕ, suc, Bool, true, false, cond, eqb, not, ◌&&◌, ◌||◌, List, [], ◌∷◌, ◌++◌, length, map, Option, Some, None, refl, sym, ap, ap₂, ◌∙◌, inl, inr}
 use Rattle.std.specs.Prelude.{filter, find}
 use Rattle.std.specs.Option.{option_map, option_to_list}
-use Rattle.std.specs.List.{list_any}
-use Rattle.std.proofs.lemmas.Bool.{cases_Bool, eqb-true, false≢true, true≢false, and_parts, and_from, and_right, not-true, not-false, or_left, or_parts, or_from, false_from_ne_true}
+use Rattle.std.proofs.lemmas.Bool.{cases_Bool, eqb-true, true≢false, and_parts, and_from, and_right, not-true, not-false, or_left, or_parts, or_from, false_from_ne_true}
 use Rattle.std.proofs.lemmas.List.{map-append, length-map}
 use Rattle.hash_bank.specs.declared.bank.Bank.{Bank}
 use Rattle.policy_digest.specs.Mask.{has_pcr}

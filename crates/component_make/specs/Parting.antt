@@ -1,5 +1,5 @@
 -- For private clauses: what is kept of the rows so far.
-use Rattle.std.specs.Prelude.{◌≡◌, ℕ, ◌+◌, ◌<◌, Bool, false, List, length, map, take, slice_index_or}
+use Rattle.std.specs.Prelude.{◌≡◌, ℕ, ◌+◌, ◌<◌, Bool, false, List, map, take, slice_index_or}
 use Rattle.cel_record.specs.ComponentText.{record_limit}
 use Rattle.cel_record.specs.Spelled.{Spelled, spelled}
 use Rattle.pcr_replay.specs.Row.{Row}

@@ -7,6 +7,7 @@ mod locked;
 mod locking;
 mod marks;
 mod parting;
+mod proper;
 mod raw_record;
 mod text;
 

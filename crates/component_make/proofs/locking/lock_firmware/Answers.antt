@@ -1,5 +1,4 @@
-use Rattle.std.proofs.Common.{◌≤◌, List, ℕ, length, map, arith, inl, inr, sym, subst}
-use Rattle.hash_bank.specs.declared.bank.Bank.{Bank}
+use Rattle.std.proofs.Common.{◌≤◌, List, length, map, arith, inl, inr, sym, subst}
 use Rattle.cel_record.specs.Spelled.{Spelled, spelled}
 use Rattle.pcr_replay.specs.Combined.{firmware_rows}
 use Rattle.component_make.specs.EarlyLate.{early_of, late_of}

@@ -1,4 +1,4 @@
-use Rattle.std.proofs.Common.{◌<◌, List, length, take, sym, subst}
+use Rattle.std.proofs.Common.{List, take, sym, subst}
 use Rattle.pcr_replay.specs.Row.{Row}
 use Rattle.pcr_replay.specs.Combined.{firmware_rows}
 use Rattle.pcr_replay.proofs.Firmware.{each_allowed}
