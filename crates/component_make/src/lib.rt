@@ -16,3 +16,6 @@ pub use locked::Locked;
 pub use locking::lock_firmware;
 pub use raw_record::raw;
 pub use text::component_text;
+
+#[cfg(test)]
+mod tests;
