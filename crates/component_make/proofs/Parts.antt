@@ -12,7 +12,7 @@ use Rattle.pcr_replay.specs.Row.{Row}
 use Rattle.pcr_replay.specs.Measured.{all_present, measured_in}
 use Rattle.component_make.specs.EarlyLate.{is_separating, separates, is_separated, Placed, placed, is_early, is_late, unplaced, early_of, late_of}
 use Rattle.component_make.specs.Lock.{is_extended, lacks_separator}
-use Rattle.component_make.specs.Split.{digests_in, of_pcr, first_separator, IsSplit}
+use Rattle.component_make.specs.Split.{digests_of_each, of_pcr, first_separator, IsSplit}
 use Rattle.component_make.proofs.Rows.{separated_more}
 
 -- the lists where some rows stand before
@@ -166,7 +166,7 @@ map_through : (bank : Bank) (rows : List Row) → map (λ r. listed_in bank r.di
 map_through bank [] = refl
 map_through bank (r ∷ rows) = ap (λ l. listed_in bank r.digests ∷ l) (map_through bank rows)
 
-measured_plain : (bank : Bank) (pcr : ℕ) (rows : List Row) → measured_in bank pcr rows ≡ digests_in bank (plain pcr rows)
+measured_plain : (bank : Bank) (pcr : ℕ) (rows : List Row) → measured_in bank pcr rows ≡ digests_of_each bank (plain pcr rows)
 measured_plain bank pcr rows = ap all_present (sym (map_through bank (filter (λ r. eqb r.pcr pcr) rows)))
 
 -- ---- whether there is a separator

@@ -10,8 +10,8 @@ use Rattle.component_make.specs.EarlyLate.{separates, unplaced}
 use Rattle.component_make.specs.Lock.{is_extended}
 
 -- the bank's digests of some records, in order, if each of these has one
-abbrev pub digests_in : Bank → List Spelled → Option (List (List ℕ))
-digests_in bank records = all_present (map (λ r. listed_in bank r.digests) records)
+abbrev pub digests_of_each : Bank → List Spelled → Option (List (List ℕ))
+digests_of_each bank records = all_present (map (λ r. listed_in bank r.digests) records)
 
 -- the records of the PCR
 abbrev pub of_pcr : ℕ → List Spelled → List Spelled
@@ -27,8 +27,8 @@ pub record IsSplit (bank : Bank) (pcr : ℕ) (rows : List Row) (early late : Lis
   pub before : List (List ℕ)
   pub between : List (List ℕ)
   pub behind : List (List ℕ)
-  pub in_early : digests_in bank (of_pcr pcr early) ≡ Some before
-  pub in_separator : digests_in bank (first_separator pcr rows) ≡ Some between
-  pub in_late : digests_in bank (of_pcr pcr late) ≡ Some behind
+  pub in_early : digests_of_each bank (of_pcr pcr early) ≡ Some before
+  pub in_separator : digests_of_each bank (first_separator pcr rows) ≡ Some between
+  pub in_late : digests_of_each bank (of_pcr pcr late) ≡ Some behind
   pub one : length between ≡ (if is_extended pcr rows then 1 else 0)
   pub joined : digests ≡ before ++ (between ++ behind)

@@ -1,4 +1,4 @@
-ghost use Rattle.std.specs.Prelude.{◌≡◌, ◌<◌, ◌^◌, ℕ, List, true, Some, map, IfOk};
+ghost use Rattle.std.specs.Prelude.{◌≡◌, ◌<◌, ◌^◌, ℕ, List, true, Some, None, map, IfOk, IsOk};
 ghost use Rattle.hash_bank.specs.declared.bank.Bank.{Bank};
 ghost use Rattle.policy_digest.specs.Mask.{has_pcr};
 ghost use Rattle.tcg_log.specs.Allowed.{IsWritable};
@@ -6,7 +6,11 @@ ghost use Rattle.cel_record.specs.Spelled.{spelled};
 ghost use Rattle.pcr_replay.specs.Combined.{firmware_rows};
 ghost use Rattle.pcr_replay.specs.Measured.{measured_in};
 ghost use Rattle.component_make.specs.Lock.{IsAnswer};
-ghost use Rattle.component_make.specs.Split.{IsSplit};
+ghost use Rattle.component_tree.specs.PlainTree.{PlainComponent};
+ghost use Rattle.record_match.specs.Lacking.{lacking_of};
+ghost use Rattle.record_match.specs.Recognition.{recognised};
+ghost use Rattle.component_make.specs.Split.{IsSplit, first_separator};
+ghost use Rattle.component_make.specs.Among.{HoldThree};
 
 use crate::error::LockError;
 use crate::locked::Locked;
@@ -32,6 +36,12 @@ pub fn lock_firmware(alloc: Global, log: &FirmwareLog, pcrs: u32) -> Result<Lock
     ensures split { IfOk result (λ l. (bank : Bank) (pcr : ℕ) (digests : List (List ℕ)) → has_pcr pcrs pcr ≡ true
         → measured_in bank pcr (firmware_rows log.now.records) ≡ Some digests
         → IsSplit bank pcr (firmware_rows log.now.records) (map spelled l.early) (map spelled l.late) digests) }
+    ensures explained { IfOk result (λ l. (bank : Bank) (pcr : ℕ) (digests : List (List ℕ)) (components : List PlainComponent)
+        → has_pcr pcrs pcr ≡ true
+        → measured_in bank pcr (firmware_rows log.now.records) ≡ Some digests
+        → lacking_of bank pcr components ≡ None
+        → HoldThree pcr (map spelled l.early) (first_separator pcr (firmware_rows log.now.records)) (map spelled l.late) components
+        → IsOk (recognised bank pcr components digests)) }
 {
     let mut locked = Locked {
         early: List::new(alloc),
