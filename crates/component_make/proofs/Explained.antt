@@ -93,7 +93,7 @@ reach_more bank pcr c components records ds list offers present reaches =
     let part : of_variant offers.variant ≡ ds = ap (filter_map (λ r. listed_in bank r.digests)) offers.same ∙ all_there bank records ds present in
     let each : (choice : List ℕ) → test (v ∷ choice) ≡ digests_eq (extends_of bank pcr components choice) list =
     λ choice. ap (λ o. digests_eq (flat_map of_variant (option_to_list o ++ chosen (variants_of components) choice)) (ds ++ list)) at
-        ∙ ap (λ x. digests_eq (x ++ extends_of bank pcr components choice) (ds ++ list)) part ∙ same_front ds (extends_of bank pcr components choice) list in
+    ∙ ap (λ x. digests_eq (x ++ extends_of bank pcr components choice) (ds ++ list)) part ∙ same_front ds (extends_of bank pcr components choice) list in
     let own : list_any test (map (λ choice. v ∷ choice) cs) ≡ true =
     any-map test (λ choice. v ∷ choice) cs ∙ any_weaker (λ choice. digests_eq (extends_of bank pcr components choice) list) (λ choice. test (v ∷ choice)) (λ choice e. each choice ∙ e) cs reaches in
     let number : get_or (range_with_len 0 (length c.variants)) v 0 ≡ v = get_or-range_with_len 0 (length c.variants) v 0 offers.listed.1 ∙ omega arith in

@@ -1,8 +1,11 @@
 //! Locks, refusals and texts against expected values.
 use crate::{LockError, Locked, component_text, lock_firmware, raw};
 use cel_record::{CelRecord, read_records};
+use component_tree::{Tree, load_tree};
 use hash_bank::{Bank, Digest, Digests};
-use pl_base::{List, Memory};
+use pcr_replay::{combined, measured};
+use pl_base::{List, MemFiles, Memory, Name};
+use record_match::explain;
 use std::alloc::Global;
 use std::test::Fail;
 use tcg_log::{Algorithm, FirmwareLog, FirmwareRecord, SpecId, Tagged, is_writable};
@@ -301,5 +304,95 @@ fn texts_read_back(rt: HostRuntime) -> Result<(), Fail> {
         return Err("no component file".into());
     };
     assert_eq!(rt; back.as_slice(), list.as_slice());
+    Ok(())
+}
+
+// The tree of the component files at these paths.
+fn tree_of(alloc: Global, files: &[(&str, &[CelRecord])]) -> Result<Tree, Fail> {
+    let mut held = MemFiles::new(alloc, List::new(alloc));
+    for (path, records) in files {
+        if records.len() > 256 {
+            return Err("too many records".into());
+        }
+        held.put(path, component_text(alloc, records)?.as_slice())?;
+    }
+    let mut folders = Vec::new(alloc);
+    folders.push(Name::from_text(alloc, "t")?)?;
+    Ok(load_tree(alloc, &mut held, &folders)?)
+}
+
+// The first choice of variants that explains what the log measures into a PCR.
+fn choice_of(alloc: Global, tree: &Tree, log: &FirmwareLog, pcr: u8) -> Result<Vec<u32>, Fail> {
+    if !is_writable(log) {
+        return Err("no writable log".into());
+    }
+    let list = combined(alloc, Some(log), &[])?;
+    let digests = measured(alloc, list.as_slice(), pcr, Bank::Sha256)?.ok_or("no digests")?;
+    let components = tree.components.as_slice();
+    match explain(alloc, components, pcr, Bank::Sha256, digests.as_slice()) {
+        Ok(choice) => Ok(choice.into_vec()),
+        Err(_) => Err("not explained".into()),
+    }
+}
+
+// Two logs, each locked under a variant of its own, and a component with the separators of both.
+#[test]
+fn made_files_explain_their_logs(rt: HostRuntime) -> Result<(), Fail> {
+    let alloc = rt.alloc();
+    let first = log_of(
+        alloc,
+        &[
+            (0, ACTION, 1),
+            (0, SEPARATOR, 1),
+            (2, SEPARATOR, 1),
+            (2, ACTION, 1),
+        ],
+    )?;
+    let second = log_of(
+        alloc,
+        &[
+            (2, ACTION, 1),
+            (0, SEPARATOR, 1),
+            (2, SEPARATOR, 1),
+            (0, ACTION, 1),
+        ],
+    )?;
+    let (Ok(a), Ok(b)) = (locked(alloc, &first, 5)?, locked(alloc, &second, 5)?) else {
+        return Err("refused".into());
+    };
+    let separators = log_of(
+        alloc,
+        &[
+            (1, SEPARATOR, 1),
+            (0, ACTION, 1),
+            (2, ACTION, 1),
+            (0, SEPARATOR, 1),
+            (2, SEPARATOR, 1),
+        ],
+    )?;
+    let Ok(between) = locked(alloc, &separators, 5)? else {
+        return Err("refused".into());
+    };
+    let tree = tree_of(
+        alloc,
+        &[
+            ("t/250-early.pcrlock.d/a.pcrlock", a.early.as_slice()),
+            ("t/250-early.pcrlock.d/b.pcrlock", b.early.as_slice()),
+            ("t/300-separator.pcrlock", between.early.as_slice()),
+            ("t/550-late.pcrlock.d/a.pcrlock", a.late.as_slice()),
+            ("t/550-late.pcrlock.d/b.pcrlock", b.late.as_slice()),
+        ],
+    )?;
+    for (log, pcr, choice) in [
+        (&first, 0, [0, 0, 0]),
+        (&first, 2, [0, 0, 0]),
+        (&second, 0, [1, 0, 1]),
+        (&second, 2, [1, 0, 1]),
+    ] {
+        assert_eq!(rt;
+            choice_of(alloc, &tree, log, pcr)?.as_slice(),
+            choice.as_slice()
+        );
+    }
     Ok(())
 }

@@ -17,8 +17,7 @@ pub returns-then-len-gt-RECORD_LIMIT-clause-answer :
     goal.returns-then-len-gt-RECORD_LIMIT-clause-answer
 returns-then-len-gt-RECORD_LIMIT-clause-answer c =
     let rows = firmware_rows c.args.log.now.records in
-    let locked = c.part_log.new.locked in
-    (
+    let locked = c.part_log.new.locked in (
       c.in_default.ensures rows c.in-Ok.ensures.marked,
       elim c.then-len-gt-RECORD_LIMIT.branch [
         | then-len-gt-RECORD_LIMIT-via-then-len-gt-RECORD_LIMIT w ↦ inl (too_long locked.early (early_of c.args.pcrs rows) c.in-Ok.ensures.parted.early (omega arith))
