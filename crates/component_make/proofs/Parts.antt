@@ -151,6 +151,29 @@ two [] ys all h = record { first = []; second = all; are_first = refl; are_secon
 two (None ∷ xs) ys all h = absurd cc
 two (Some x ∷ xs) ys all h = both xs ys x (all_present (xs ++ ys)) all (λ more is. two xs ys more is) h
 
+record Three (xs ys zs : List (Option (List ℕ))) (all : List (List ℕ)) : Type 0 where
+  first : List (List ℕ)
+  second : List (List ℕ)
+  third : List (List ℕ)
+  are_first : all_present xs ≡ Some first
+  are_second : all_present ys ≡ Some second
+  are_third : all_present zs ≡ Some third
+  joined : all ≡ first ++ (second ++ third)
+
+with_rest : (xs ys zs : List (Option (List ℕ))) (all : List (List ℕ)) (t : Two xs (ys ++ zs) all) → Two ys zs t.second → Three xs ys zs all
+with_rest xs ys zs all t u = record {
+  first = t.first;
+  second = u.first;
+  third = u.second;
+  are_first = t.are_first;
+  are_second = u.are_first;
+  are_third = u.are_second;
+  joined = t.joined ∙ ap (λ x. t.first ++ x) u.joined;
+}
+
+in_three : (xs ys zs : List (Option (List ℕ))) (all : List (List ℕ)) → Two xs (ys ++ zs) all → Three xs ys zs all
+in_three xs ys zs all t = with_rest xs ys zs all t (two ys zs t.second t.are_second)
+
 one_more : (n : ℕ) (x : List ℕ) (o : Option (List (List ℕ))) (all : List (List ℕ)) → ((more : List (List ℕ)) → o ≡ Some more → length more ≡ n) → option_map (λ more. x ∷ more) o ≡ Some all → length all ≡ suc n
 one_more n x None all rest e = absurd cc
 one_more n x (Some more) all rest e =
@@ -198,26 +221,39 @@ separated_where mask pcr rows inside lacks =
 
 -- ---- the law
 
+-- the digests of a list of three parts
+cut : (bank : Bank) (all e s l : List Spelled) (digests : List (List ℕ)) → all ≡ e ++ (s ++ l) → digests_of_each bank all ≡ Some digests
+    → all_present (map (λ r. listed_in bank r.digests) e ++ (map (λ r. listed_in bank r.digests) s ++ map (λ r. listed_in bank r.digests) l)) ≡ Some digests
+cut bank all e s l digests parts present =
+    let f : Spelled → Option (List ℕ) = λ r. listed_in bank r.digests in
+    let mapped : map f (e ++ (s ++ l)) ≡ map f e ++ (map f s ++ map f l) = map-append f e (s ++ l) ∙ ap (λ x. map f e ++ x) (map-append f s l) in
+    ap all_present (sym mapped) ∙ ap (λ rs. all_present (map f rs)) (sym parts) ∙ present
+
+three_lists : (bank : Bank) (all e s l : List Spelled) (digests : List (List ℕ)) → all ≡ e ++ (s ++ l) → digests_of_each bank all ≡ Some digests
+    → Three (map (λ r. listed_in bank r.digests) e) (map (λ r. listed_in bank r.digests) s) (map (λ r. listed_in bank r.digests) l) digests
+three_lists bank all e s l digests parts present =
+    let f : Spelled → Option (List ℕ) = λ r. listed_in bank r.digests in
+    in_three (map f e) (map f s) (map f l) digests (two (map f e) (map f s ++ map f l) digests (cut bank all e s l digests parts present))
+
+from_three : (bank : Bank) (pcr : ℕ) (rows : List Row) (early late : List Spelled) (digests : List (List ℕ)) → is_separated pcr rows ≡ is_extended pcr rows
+    → Three (map (λ r. listed_in bank r.digests) (of_pcr pcr early)) (map (λ r. listed_in bank r.digests) (first_separator pcr rows)) (map (λ r. listed_in bank r.digests) (of_pcr pcr late)) digests
+    → IsSplit bank pcr rows early late digests
+from_three bank pcr rows early late digests separated t = record {
+  before = t.first;
+  between = t.second;
+  behind = t.third;
+  in_early = t.are_first;
+  in_separator = t.are_second;
+  in_late = t.are_third;
+  one =
+      same_length (map (λ r. listed_in bank r.digests) (first_separator pcr rows)) t.second t.are_second ∙ length-map (first_separator pcr rows) (λ r. listed_in bank r.digests)
+      ∙ first_length pcr rows ∙ ap (λ b. cond b 1 0) separated;
+  joined = t.joined;
+}
+
 pub split_by : (bank : Bank) (mask pcr : ℕ) (rows : List Row) (digests : List (List ℕ)) → has_pcr mask pcr ≡ true → lacks_separator mask rows pcr ≡ false → measured_in bank pcr rows ≡ Some digests
     → IsSplit bank pcr rows (early_of mask rows) (late_of mask rows) digests
 split_by bank mask pcr rows digests inside lacks measured =
-    let e = of_pcr pcr (early_of mask rows) in
-    let s = first_separator pcr rows in
-    let l = of_pcr pcr (late_of mask rows) in
-    let f : Spelled → Option (List ℕ) = λ r. listed_in bank r.digests in
-    let cut : map f (plain pcr rows) ≡ map f e ++ (map f s ++ map f l) =
-    ap (map f) (three mask pcr [] rows inside refl) ∙ map-append f e (s ++ l) ∙ ap (λ x. map f e ++ x) (map-append f s l) in
-    let outer = two (map f e) (map f s ++ map f l) digests (sym (ap all_present cut) ∙ sym (measured_plain bank pcr rows) ∙ measured) in
-    let inner = two (map f s) (map f l) outer.second outer.are_second in
-    record {
-      before = outer.first;
-      between = inner.first;
-      behind = inner.second;
-      in_early = outer.are_first;
-      in_separator = inner.are_first;
-      in_late = inner.are_second;
-      one =
-          same_length (map f s) inner.first inner.are_first ∙ length-map s f ∙ first_length pcr rows
-          ∙ ap (λ b. cond b 1 0) (separated_where mask pcr rows inside lacks);
-      joined = outer.joined ∙ ap (λ x. outer.first ++ x) inner.joined;
-    }
+    from_three bank pcr rows (early_of mask rows) (late_of mask rows) digests (separated_where mask pcr rows inside lacks)
+    (three_lists bank (plain pcr rows) (of_pcr pcr (early_of mask rows)) (first_separator pcr rows) (of_pcr pcr (late_of mask rows)) digests
+    (three mask pcr [] rows inside refl) (sym (measured_plain bank pcr rows) ∙ measured))
