@@ -1,7 +1,7 @@
 -- Components that offer the three parts of what was measured into a PCR explain it.
-use Rattle.std.proofs.Common.{◌≡◌, ℕ, zero, suc, ◌+◌, ◌<◌, Bool, true, false, cond, eqb, ◌&&◌, ◌||◌, List, [], ◌∷◌, ◌++◌, length, map, get_or, Option, Some, None, Ok, refl, sym, ap, ap₂, ◌∙◌, subst, inl, inr, eq-eqb, append-nil, arith}
-use Rattle.std.specs.Prelude.{filter, find, slice_get, IsOk, is_ok}
-use Rattle.std.specs.List.{All, Contains, cons_option, filter_map, flat_map, list_any, range_with_len}
+use Rattle.std.proofs.Common.{◌≡◌, ℕ, zero, suc, ◌<◌, Bool, true, cond, ◌&&◌, ◌||◌, List, [], ◌∷◌, ◌++◌, length, map, get_or, Option, Some, None, refl, sym, ap, ap₂, ◌∙◌, subst, inl, inr, eq-eqb, append-nil, arith}
+use Rattle.std.specs.Prelude.{find, slice_get, IsOk, is_ok}
+use Rattle.std.specs.List.{cons_option, filter_map, flat_map, list_any, range_with_len}
 use Rattle.std.specs.Option.{option_map, option_to_list}
 use Rattle.std.specs.Str.{bytes_eq}
 use Rattle.std.proofs.lemmas.Bool.{cases_Bool, or_left, or_right}

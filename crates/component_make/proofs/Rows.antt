@@ -13,8 +13,11 @@ use Rattle.cel_record.specs.Spelled.{Spelled, spelled}
 use Rattle.pcr_replay.specs.Row.{Row}
 use Rattle.cel_record.specs.declared.record.CelRecord.{CelRecord}
 use Rattle.pcr_replay.specs.Combined.{extended_row, firmware_row, firmware_rows}
-use Rattle.component_make.specs.EarlyLate.{is_separating, separates, is_separated, Placed, placed, is_early, is_late, unplaced, early_of, late_of}
-use Rattle.component_make.specs.Parting.{front}
+use Rattle.component_make.specs.EarlyLate.{is_separating, separates, is_separated, Placed, placed, is_early, is_late, unplaced}
+use Rattle.component_make.specs.Parting.{front, side_by, IsParted}
+use Rattle.component_make.specs.declared.locked.Locked.{Locked}
+use Rattle.component_make.specs.declared.parting.Side.{Side}
+use Rattle.component_make.specs.declared.parting.Side.TheVariants.{Early, Late, Neither}
 
 single : (o : Option Row) → cons_option o [] ≡ option_to_list o
 single None = refl
@@ -72,23 +75,75 @@ take_front zero xs ys = refl
 take_front (suc n) [] ys = refl
 take_front (suc n) (x ∷ xs) ys = ap (λ l. x ∷ l) (take_front n xs ys)
 
-kept_next : (all old new : List Spelled) (x : Spelled) (b : Bool) → old ≡ front all → new ≡ cond b (front (old ++ x ∷ [])) old → new ≡ front (all ++ cond b (x ∷ []) [])
-kept_next all old new x true is made = made ∙ ap (λ l. front (l ++ x ∷ [])) is ∙ take_front 257 all (x ∷ [])
-kept_next all old new x false is made = made ∙ is ∙ ap front (sym (append-nil all))
+kept_next : (all old new : List Spelled) (x : Spelled) → old ≡ front all → new ≡ front (old ++ x ∷ []) → new ≡ front (all ++ x ∷ [])
+kept_next all old new x is made = made ∙ ap (λ l. front (l ++ x ∷ [])) is ∙ take_front 257 all (x ∷ [])
 
-pub early_next : (mask : ℕ) (rows : List Row) (r : Row) (old new : List Spelled) (b : Bool) → b ≡ (has_pcr mask r.pcr && not (is_separated r.pcr rows || is_separating r.origin))
-    → old ≡ front (early_of mask rows) → new ≡ cond b (front (old ++ unplaced r ∷ [])) old → new ≡ front (early_of mask (rows ++ r ∷ []))
-early_next mask rows r old new b test is made =
-    kept_next (early_of mask rows) old new (unplaced r) b is made
-    ∙ ap (λ t. front (early_of mask rows ++ cond t (unplaced r ∷ []) [])) (test ∙ sym (early_test mask rows r))
-    ∙ ap front (sym (chosen (is_early mask) rows r))
+-- the whole list, where the row is put and where it isn't
+put_in : (test : Placed → Bool) (rows : List Row) (r : Row) (old new : List Spelled) → test (record { before = rows; at = r }) ≡ true → old ≡ front (map (λ p. unplaced p.at) (filter test (placed [] rows)))
+    → new ≡ front (old ++ unplaced r ∷ []) → new ≡ front (map (λ p. unplaced p.at) (filter test (placed [] (rows ++ r ∷ []))))
+put_in test rows r old new passes is made =
+    let all = map (λ p. unplaced p.at) (filter test (placed [] rows)) in
+    kept_next all old new (unplaced r) is made ∙ ap (λ b. front (all ++ cond b (unplaced r ∷ []) [])) (sym passes) ∙ ap front (sym (chosen test rows r))
 
-pub late_next : (mask : ℕ) (rows : List Row) (r : Row) (old new : List Spelled) (b : Bool) → b ≡ (has_pcr mask r.pcr && is_separated r.pcr rows)
-    → old ≡ front (late_of mask rows) → new ≡ cond b (front (old ++ unplaced r ∷ [])) old → new ≡ front (late_of mask (rows ++ r ∷ []))
-late_next mask rows r old new b test is made =
-    kept_next (late_of mask rows) old new (unplaced r) b is made
-    ∙ ap (λ t. front (late_of mask rows ++ cond t (unplaced r ∷ []) [])) test
-    ∙ ap front (sym (chosen (is_late mask) rows r))
+left_out : (test : Placed → Bool) (rows : List Row) (r : Row) (old : List Spelled) → test (record { before = rows; at = r }) ≡ false → old ≡ front (map (λ p. unplaced p.at) (filter test (placed [] rows)))
+    → old ≡ front (map (λ p. unplaced p.at) (filter test (placed [] (rows ++ r ∷ []))))
+left_out test rows r old fails is =
+    let all = map (λ p. unplaced p.at) (filter test (placed [] rows)) in
+    is ∙ ap front (sym (append-nil all)) ∙ ap (λ b. front (all ++ cond b (unplaced r ∷ []) [])) (sym fails) ∙ ap front (sym (chosen test rows r))
+
+-- ---- by the side on which the row stands
+
+record Sides (inside behind separates : Bool) (early late : Bool) : Type 0 where
+  is_early : (inside && not (behind || separates)) ≡ early
+  is_late : (inside && behind) ≡ late
+
+early_side : (inside behind separates : Bool) → Early ≡ side_by inside behind separates → Sides inside behind separates true false
+early_side false behind separates e = absurd cc
+early_side true true separates e = absurd cc
+early_side true false true e = absurd cc
+early_side true false false e = record { is_early = refl; is_late = refl }
+
+late_side : (inside behind separates : Bool) → Late ≡ side_by inside behind separates → Sides inside behind separates false true
+late_side false behind separates e = absurd cc
+late_side true true separates e = record { is_early = refl; is_late = refl }
+late_side true false true e = absurd cc
+late_side true false false e = absurd cc
+
+no_side : (inside behind separates : Bool) → Neither ≡ side_by inside behind separates → Sides inside behind separates false false
+no_side false behind separates e = record { is_early = refl; is_late = refl }
+no_side true true separates e = absurd cc
+no_side true false true e = record { is_early = refl; is_late = refl }
+no_side true false false e = absurd cc
+
+-- the side of a row behind some others
+abbrev pub side_at : ℕ → List Row → Row → Side
+side_at mask rows r = side_by (has_pcr mask r.pcr) (is_separated r.pcr rows) (is_separating r.origin)
+
+pub parted_early : (mask : ℕ) (rows : List Row) (r : Row) (old : Locked) (early : List CelRecord) → Early ≡ side_at mask rows r → IsParted mask rows old → map spelled early ≡ front (map spelled old.early ++ unplaced r ∷ [])
+    → IsParted mask (rows ++ r ∷ []) (record old { early = early })
+parted_early mask rows r old early is parted made =
+    let s = early_side (has_pcr mask r.pcr) (is_separated r.pcr rows) (is_separating r.origin) is in
+    record {
+      early = put_in (is_early mask) rows r (map spelled old.early) (map spelled early) (early_test mask rows r ∙ s.is_early) parted.early made;
+      late = left_out (is_late mask) rows r (map spelled old.late) s.is_late parted.late;
+    }
+
+pub parted_late : (mask : ℕ) (rows : List Row) (r : Row) (old : Locked) (late : List CelRecord) → Late ≡ side_at mask rows r → IsParted mask rows old → map spelled late ≡ front (map spelled old.late ++ unplaced r ∷ [])
+    → IsParted mask (rows ++ r ∷ []) (record old { late = late })
+parted_late mask rows r old late is parted made =
+    let s = late_side (has_pcr mask r.pcr) (is_separated r.pcr rows) (is_separating r.origin) is in
+    record {
+      early = left_out (is_early mask) rows r (map spelled old.early) (early_test mask rows r ∙ s.is_early) parted.early;
+      late = put_in (is_late mask) rows r (map spelled old.late) (map spelled late) s.is_late parted.late made;
+    }
+
+pub parted_neither : (mask : ℕ) (rows : List Row) (r : Row) (old : Locked) → Neither ≡ side_at mask rows r → IsParted mask rows old → IsParted mask (rows ++ r ∷ []) old
+parted_neither mask rows r old is parted =
+    let s = no_side (has_pcr mask r.pcr) (is_separated r.pcr rows) (is_separating r.origin) is in
+    record {
+      early = left_out (is_early mask) rows r (map spelled old.early) (early_test mask rows r ∙ s.is_early) parted.early;
+      late = left_out (is_late mask) rows r (map spelled old.late) s.is_late parted.late;
+    }
 
 -- ---- what is put, and what is left out
 

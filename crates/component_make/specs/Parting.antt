@@ -1,12 +1,22 @@
 -- For private clauses: what is kept of the rows so far.
-use Rattle.std.specs.Prelude.{◌≡◌, ℕ, ◌+◌, ◌<◌, Bool, false, List, map, take, slice_index_or}
+use Rattle.std.specs.Prelude.{◌≡◌, ℕ, ◌+◌, ◌<◌, Bool, true, false, List, map, take, slice_index_or}
 use Rattle.cel_record.specs.ComponentText.{record_limit}
 use Rattle.cel_record.specs.Spelled.{Spelled, spelled}
 use Rattle.pcr_replay.specs.Row.{Row}
 use Rattle.component_make.specs.declared.locked.Locked.{Locked}
 use Rattle.component_make.specs.declared.marks.Marks.{Marks}
+use Rattle.component_make.specs.declared.parting.Side.{Side}
+use Rattle.component_make.specs.declared.parting.Side.TheVariants.{Early, Late, Neither}
 use Rattle.component_make.specs.EarlyLate.{is_separated, early_of, late_of}
 use Rattle.component_make.specs.Lock.{is_extended}
+
+-- on which side of its PCR's separator a record stands, by whether its PCR is one of the mask, whether a
+-- separator of the PCR stands before it, and whether it is one
+abbrev pub side_by : Bool → Bool → Bool → Side
+side_by false behind separates = Neither
+side_by true true separates = Late
+side_by true false true = Neither
+side_by true false false = Early
 
 -- some records, up to one more than a component file may have
 abbrev pub front : List Spelled → List Spelled

@@ -1,5 +1,5 @@
 //! The records before the separators of their PCRs, and those behind them.
-ghost use Rattle.std.specs.Prelude.{◌≡◌, ◌≤◌, ◌+◌, List, [], ◌∷◌, ◌++◌, true, not, ◌&&◌, ◌||◌, if◌then◌else◌, length, map, IfSome, OnOk};
+ghost use Rattle.std.specs.Prelude.{◌≡◌, ◌≤◌, ◌+◌, List, [], ◌∷◌, ◌++◌, true, length, map, IfSome, OnOk};
 ghost use Rattle.std.specs.Option.{option_to_list};
 ghost use Rattle.hash_bank.specs.Hash.{size_in};
 ghost use Rattle.tcg_log.specs.Allowed.{IsWritable, has_pcr};
@@ -9,7 +9,7 @@ ghost use Rattle.pcr_replay.specs.Sized.{AreSized};
 ghost use Rattle.pcr_replay.specs.Row.{Row};
 ghost use Rattle.pcr_replay.specs.Combined.{tagged_in, firmware_row, extended_row, firmware_rows};
 ghost use Rattle.component_make.specs.EarlyLate.{unplaced};
-ghost use Rattle.component_make.specs.Parting.{front, IsParted, IsMarked};
+ghost use Rattle.component_make.specs.Parting.{front, side_by, IsParted, IsMarked};
 
 use crate::locked::Locked;
 use crate::marks::Marks;
@@ -24,6 +24,17 @@ const EV_SEPARATOR: u32 = 4;
 
 /// How many records a component file may have.
 pub(crate) const RECORD_LIMIT: usize = 256;
+
+/// Where a record stands to the separator of its PCR.
+#[derive(Drop)]
+enum Side {
+    /// Before it.
+    Early,
+    /// Behind it.
+    Late,
+    /// It is the separator, or of a PCR that is left out.
+    Neither,
+}
 
 /// The digest that a firmware record has for the bank.
 fn digest_of(digests: &[Tagged], bank: Bank) -> Option<Digest>
@@ -61,19 +72,13 @@ fn push_record(list: &mut List<CelRecord>, measured: &FirmwareRecord) -> Result<
     Ok(())
 }
 
-/// Puts the record at the end where it is wanted, unless the list is too long for a component file
-/// already.
-fn put(list: &mut List<CelRecord>, is_wanted: bool, measured: &FirmwareRecord) -> Result<(), Memory>
+/// Puts the record at the end, unless the list is too long for a component file already.
+fn put(list: &mut List<CelRecord>, measured: &FirmwareRecord) -> Result<(), Memory>
     requires sized { AreSized measured.now.digests }
     requires in_range { measured.now.pcr ≤ 23 }
     requires short { length list.old ≤ record_limit + 1 }
-    ensures { OnOk result (map spelled list.new ≡ (if is_wanted
-        then front (map spelled list.old ++ unplaced (firmware_row measured.now) ∷ [])
-        else map spelled list.old)) }
+    ensures { OnOk result (map spelled list.new ≡ front (map spelled list.old ++ unplaced (firmware_row measured.now) ∷ [])) }
 {
-    if !is_wanted {
-        return Ok(());
-    }
     if list.len() > RECORD_LIMIT {
         return Ok(());
     }
@@ -81,18 +86,20 @@ fn put(list: &mut List<CelRecord>, is_wanted: bool, measured: &FirmwareRecord) -
     Ok(())
 }
 
-/// Whether a record of the mask's PCRs stands before the separator of its PCR.
-fn is_before(is_inside: bool, is_behind: bool, separates: bool) -> bool
-    ensures { result ≡ (is_inside && not (is_behind || separates)) }
+/// Which list a record belongs to, of a PCR that may be one of the mask, and where a separator of its
+/// PCR may stand before it, or is it.
+fn side_of(is_inside: bool, is_behind: bool, separates: bool) -> Side
+    ensures { result ≡ side_by is_inside is_behind separates }
 {
-    is_inside && !is_behind && !separates
-}
-
-/// Whether it stands behind the separator.
-fn is_after(is_inside: bool, is_behind: bool) -> bool
-    ensures { result ≡ (is_inside && is_behind) }
-{
-    is_inside && is_behind
+    if !is_inside {
+        Side::Neither
+    } else if is_behind {
+        Side::Late
+    } else if separates {
+        Side::Neither
+    } else {
+        Side::Early
+    }
 }
 
 /// Takes in one more record of the log.
@@ -116,13 +123,13 @@ fn part_record(
     let pcr = measured.pcr as u8;
     let separates = measured.kind == EV_SEPARATOR;
     let is_behind = marks.is_separated(pcr);
-    marks.mark(pcr, separates);
     let is_inside = is_in_mask(pcrs, pcr);
-    let is_early = is_before(is_inside, is_behind, separates);
-    let is_late = is_after(is_inside, is_behind);
-    put(&mut locked.early, is_early, measured)?;
-    put(&mut locked.late, is_late, measured)?;
-    Ok(())
+    marks.mark(pcr, separates);
+    match side_of(is_inside, is_behind, separates) {
+        Side::Early => put(&mut locked.early, measured),
+        Side::Late => put(&mut locked.late, measured),
+        Side::Neither => Ok(()),
+    }
 }
 
 /// Takes in the log's records, in order.

@@ -1,12 +1,7 @@
-use Rattle.std.proofs.Common.{◌≡◌, ◌≤◌, List, ℕ, true, Some, length, map, arith, inl, inr, sym, subst}
-use Rattle.hash_bank.specs.declared.bank.Bank.{Bank}
-use Rattle.policy_digest.specs.Mask.{has_pcr}
-use Rattle.cel_record.specs.Spelled.{Spelled, spelled}
+use Rattle.std.proofs.Common.{map, arith, inl, inr}
+use Rattle.cel_record.specs.Spelled.{spelled}
 use Rattle.pcr_replay.specs.Combined.{firmware_rows}
-use Rattle.pcr_replay.specs.Measured.{measured_in}
 use Rattle.component_make.specs.EarlyLate.{early_of, late_of}
-use Rattle.component_make.specs.Lock.{AreSeparated}
-use Rattle.component_make.specs.Parting.{IsParted}
 use Rattle.component_make.proofs.Rows.{too_long}
 use Rattle.component_make.proofs.Locks.{locks, splits}
 use Rattle.component_make.proofs.Explained.{explained_by}

@@ -9,9 +9,9 @@ use Rattle.component_make.proofs.parting.put.Goals as goal
 pub returns-then-len-gt-RECORD_LIMIT : goal.returns-then-len-gt-RECORD_LIMIT
 returns-then-len-gt-RECORD_LIMIT c =
     let long : length (map spelled c.args.list.now) ≡ 257 = omega (arith, length-map c.args.list.now spelled) in
-    rw c.if-not-is_wanted.false (full (map spelled c.args.list.now) (unplaced (firmware_row c.args.measured.now)) long)
+    full (map spelled c.args.list.now) (unplaced (firmware_row c.args.measured.now)) long
 
 pub returns : goal.returns
 returns c =
     let few : length (map spelled c.args.list.now) ≤ 256 = omega (arith, length-map c.args.list.now spelled) in
-    rw c.if-not-is_wanted.false (c.in_ok-push_record.ensures ∙ fits (map spelled c.args.list.now) (unplaced (firmware_row c.args.measured.now)) few)
+    c.in_ok-push_record.ensures ∙ fits (map spelled c.args.list.now) (unplaced (firmware_row c.args.measured.now)) few
