@@ -1,6 +1,6 @@
--- What was measured into some PCRs before the first EV_SEPARATOR of each, and what behind it. By that
--- event the firmware ends its own part of what a PCR gets before the operating system is started (TCG
--- PC Client Platform Firmware Profile). Rows are what was extended, in order.
+-- What was measured into some PCRs before the first EV_SEPARATOR of each, and what behind it. The firmware
+-- measures that event into a PCR where it hands over to the operating system (TCG PC Client Platform Firmware
+-- Profile). Rows are what was extended, in order.
 use Rattle.std.specs.Prelude.{ℕ, ◌==◌, Bool, false, not, ◌&&◌, List, [], ◌∷◌, ◌++◌, map, filter}
 use Rattle.std.specs.List.{list_any}
 use Rattle.policy_digest.specs.Mask.{has_pcr}
