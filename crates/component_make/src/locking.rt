@@ -5,10 +5,10 @@ ghost use Rattle.tcg_log.specs.Allowed.{IsWritable};
 ghost use Rattle.cel_record.specs.Spelled.{spelled};
 ghost use Rattle.pcr_replay.specs.Combined.{firmware_rows};
 ghost use Rattle.pcr_replay.specs.Measured.{measured_in};
-ghost use Rattle.component_make.specs.Lock.{IsAnswer};
 ghost use Rattle.component_tree.specs.PlainTree.{PlainComponent};
 ghost use Rattle.record_match.specs.Lacking.{lacking_of};
 ghost use Rattle.record_match.specs.Recognition.{recognised};
+ghost use Rattle.component_make.specs.Lock.{IsAnswer};
 ghost use Rattle.component_make.specs.Split.{IsSplit, first_separator};
 ghost use Rattle.component_make.specs.Among.{HoldThree};
 
@@ -23,7 +23,8 @@ use tcg_log::FirmwareLog;
 /// What the firmware extended into the PCRs of the mask, in order: the records before the first
 /// EV_SEPARATOR of their PCR, and those behind it (TCG PC Client Platform Firmware Profile). A log that
 /// was read is writable. So a PCR's digests in a bank are those of the early list, that of its first
-/// separator, and those of the late list.
+/// separator, and those of the late list; and components that offer these three in this order, and else
+/// nothing of the PCR, explain it.
 ///
 /// # Errors
 ///

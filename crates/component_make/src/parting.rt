@@ -19,7 +19,7 @@ use pl_base::{List, Memory};
 use policy_digest::is_in_mask;
 use tcg_log::{EV_NO_ACTION, FirmwareLog, FirmwareRecord, Tagged};
 
-/// The type of the records that end the firmware's own part of a PCR (EV_SEPARATOR).
+/// The type of the records by which the firmware marks that it hands over (EV_SEPARATOR).
 const EV_SEPARATOR: u32 = 4;
 
 /// How many records a component file may have.
@@ -86,8 +86,8 @@ fn put(list: &mut List<CelRecord>, measured: &FirmwareRecord) -> Result<(), Memo
     Ok(())
 }
 
-/// Which list a record belongs to, of a PCR that may be one of the mask, and where a separator of its
-/// PCR may stand before it, or is it.
+/// On which side of its PCR's separator a record stands, by whether its PCR is one of the mask, whether a
+/// separator of the PCR stands before it, and whether it is one.
 fn side_of(is_inside: bool, is_behind: bool, separates: bool) -> Side
     ensures { result ≡ side_by is_inside is_behind separates }
 {
