@@ -12,7 +12,9 @@ use Rattle.pcrlock_run.specs.declared.status.Status.TheVariants as statuses
 -- The status of an answer. A fault or want of memory stops a command and is no answer of one: then
 -- the status is 5 or 6, which no answer has.
 abbrev pub refusal_status : Answer → ℕ
+refusal_status (answers.NotForeseen pcrs now) = 1
 refusal_status (answers.NotLiteral pcr now sealed) = 1
+refusal_status (answers.NotProved line) = 1
 refusal_status answers.BadWords = 2
 refusal_status (answers.Malformed path place) = 3
 refusal_status (answers.NoSuchFile path) = 3
@@ -37,7 +39,7 @@ err_of (Refused answer) = answer_text answer
 -- the number of a status
 abbrev pub number_of : Status → ℕ
 number_of statuses.Fine = 0
-number_of statuses.NotLiteral = 1
+number_of statuses.Unmet = 1
 number_of statuses.BadWords = 2
 number_of statuses.BadFile = 3
 number_of statuses.Limit = 4

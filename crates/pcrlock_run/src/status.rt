@@ -11,8 +11,8 @@ use pcrlock_words::Answer;
 pub enum Status {
     /// It did its work.
     Fine,
-    /// A PCR doesn't hold the value to which the key is bound.
-    NotLiteral,
+    /// What is asked isn't met: a PCR doesn't hold what opens the key, or a proof fails.
+    Unmet,
     /// The words are no command line.
     BadWords,
     /// A file is missing or malformed.
@@ -29,7 +29,9 @@ impl Status {
         ensures { number_of result ≡ refusal_status answer.now }
     {
         match answer {
-            Answer::NotLiteral { .. } => Status::NotLiteral,
+            Answer::NotForeseen { .. } | Answer::NotLiteral { .. } | Answer::NotProved(_) => {
+                Status::Unmet
+            }
             Answer::BadWords => Status::BadWords,
             Answer::Malformed { .. } | Answer::NoSuchFile(_) => Status::BadFile,
             Answer::Limit { .. } | Answer::CounterEnd { .. } => Status::Limit,
@@ -43,7 +45,15 @@ impl Status {
             | Answer::WrongBinding { .. }
             | Answer::SessionsFull
             | Answer::BankAbsent(_)
-            | Answer::NoDigest { .. } => Status::Other,
+            | Answer::NoDigest { .. }
+            | Answer::NothingProtected
+            | Answer::NoPolicy(_)
+            | Answer::NoIndex(_)
+            | Answer::UnwrittenIndex(_)
+            | Answer::IndexTaken { .. }
+            | Answer::Outdated { .. }
+            | Answer::PinRefused { .. }
+            | Answer::NoSeparator(_) => Status::Other,
         }
     }
 
@@ -63,7 +73,7 @@ impl Status {
     {
         match self {
             Status::Fine => 0,
-            Status::NotLiteral => 1,
+            Status::Unmet => 1,
             Status::BadWords => 2,
             Status::BadFile => 3,
             Status::Limit => 4,

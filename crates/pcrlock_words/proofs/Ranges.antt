@@ -1,7 +1,7 @@
 -- Texts of the 24 PCRs, one after the other, and texts with another one between.
 use Rattle.std.proofs.Common.{◌≡◌, ℕ, suc, ◌+◌, ◌-◌, ◌<◌, ◌≤◌, List, [], ◌∷◌, ◌++◌, map, flat_map, refl, sym, ap, ◌∙◌, arith, append-nil, append_assoc}
 use Rattle.std.specs.List.{range_with_len}
-use Rattle.pcrlock_words.specs.PredictText.{with_between}
+use Rattle.pcrlock_words.specs.Joined.{with_between}
 
 -- the texts of the PCRs from one on
 abbrev pub texts_from : (ℕ → List ℕ) → ℕ → List ℕ

@@ -4,32 +4,19 @@ use Rattle.std.specs.List.{range_with_len}
 use Rattle.std.specs.Fmt.{decimal}
 use Rattle.hex.specs.Hex.{encode_lower}
 use Rattle.component_tree.specs.PlainTree.{PlainComponent}
-use Rattle.policy_digest.specs.Mask.{has_pcr, pcrs_of}
+use Rattle.policy_digest.specs.Mask.{has_pcr}
 use Rattle.policy_digest.specs.declared.table.Row.{Row}
 use Rattle.predictor.specs.declared.protection.Cause.{Cause}
 use Rattle.predictor.specs.declared.protection.Cause.TheVariants.{NoLogDigest, ValueDiffers, MissingComponent, Unrecognised}
 use Rattle.predictor.specs.declared.protection.LeftOut.{LeftOut}
 use Rattle.predictor.specs.declared.protection.Protection.{Protection}
+use Rattle.pcrlock_words.specs.Joined.{mask_text, with_commas}
 use Rattle.pcrlock_words.specs.Texts.{line_end}
 use Rattle.pcrlock_words.specs.LogText.{id_at}
-
--- texts with another one between
-abbrev pub with_between : List ℕ → List (List ℕ) → List ℕ
-with_between between [] = []
-with_between between (text ∷ []) = text
-with_between between (text ∷ next ∷ texts) = text ++ between ++ with_between between (next ∷ texts)
-
--- texts with commas between
-abbrev pub with_commas : List (List ℕ) → List ℕ
-with_commas texts = with_between (codes ",") texts
 
 -- the values of some PCRs at once
 abbrev pub values_text : List (List ℕ) → List ℕ
 values_text values = with_commas (map encode_lower values)
-
--- the PCRs of a mask
-abbrev pub mask_text : ℕ → List ℕ
-mask_text mask = with_commas (map decimal (pcrs_of mask))
 
 -- why a PCR is left out
 abbrev pub cause_text : List PlainComponent → Cause → List ℕ

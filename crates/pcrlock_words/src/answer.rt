@@ -6,6 +6,12 @@ use pl_base::Name;
 /// [`answer_line`](crate::answer_line) gives.
 #[derive(Debug, Drop)]
 pub enum Answer {
+    /// None of the lists of a policy's row, whose mask of PCRs this is, is what these hold: of one PCR its value, of
+    /// several the digest of their values.
+    NotForeseen {
+        pcrs: u32,
+        now: Digest,
+    },
     /// The PCR holds `now`, and the object opens only where it holds `sealed`.
     NotLiteral {
         pcr: u8,
@@ -60,4 +66,31 @@ pub enum Answer {
         variant: Name,
         place: u32,
     },
+    /// No asked PCR can be protected.
+    NothingProtected,
+    /// No policy file stands at this path.
+    NoPolicy(Name),
+    /// The TPM has no index of this handle.
+    NoIndex(u32),
+    /// The index of this handle was never written.
+    UnwrittenIndex(u32),
+    /// An index of this handle, with this Name, is written under a policy of another pin.
+    IndexTaken {
+        handle: u32,
+        name: Digest,
+    },
+    /// The index holds the root of none of the policy file's tables: that root, and the one of the newest table.
+    Outdated {
+        index: Digest,
+        file: Digest,
+    },
+    /// The given pin has another policy than the index.
+    PinRefused {
+        given: Digest,
+        index: Digest,
+    },
+    /// The firmware extended this PCR and no separator into it.
+    NoSeparator(u8),
+    /// The proof on this line of a proof file fails.
+    NotProved(u32),
 }

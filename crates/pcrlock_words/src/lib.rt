@@ -32,4 +32,7 @@ pub use place::Place;
 pub use predict::predict_text;
 pub use read::read_words;
 pub use request::Request;
-pub use texts::{answer_line, enrolled_line, key_line, records_line, status_line};
+pub use texts::{
+    answer_line, checked_line, enrolled_line, key_line, locked_line, pin_line, proved_line,
+    records_line, status_line, unlocked_line,
+};

@@ -5,7 +5,8 @@ ghost use Rattle.std.specs.Fmt.{decimal};
 ghost use Rattle.hex.specs.Hex.{encode_lower};
 ghost use Rattle.component_tree.specs.PlainTree.{plain};
 ghost use Rattle.policy_digest.specs.Mask.{has_pcr, pcrs_of};
-ghost use Rattle.pcrlock_words.specs.PredictText.{each_text, joint_text, left_text, mask_text, one_pcr_text, predict_text, together_text, value_text, values_text, with_commas};
+ghost use Rattle.pcrlock_words.specs.Joined.{mask_text, with_commas};
+ghost use Rattle.pcrlock_words.specs.PredictText.{each_text, joint_text, left_text, one_pcr_text, predict_text, together_text, value_text, values_text};
 
 use crate::log::component_id;
 use component_tree::Tree;
@@ -73,7 +74,7 @@ fn write_more_pcrs(text: &mut String, pcrs: &[u8]) -> Result<(), Memory>
 }
 
 // Writes numbers with commas between.
-fn write_pcrs(text: &mut String, pcrs: &[u8]) -> Result<(), Memory>
+pub(crate) fn write_pcrs(text: &mut String, pcrs: &[u8]) -> Result<(), Memory>
     ensures { OnOk result (string_bytes text.new ≡ string_bytes text.old ++ with_commas (map decimal pcrs.now)) }
 {
     let Some((first, others)) = pcrs.split_first() else {
@@ -85,7 +86,7 @@ fn write_pcrs(text: &mut String, pcrs: &[u8]) -> Result<(), Memory>
 }
 
 // The PCRs of the mask, ascending.
-fn pcrs_in(alloc: Global, mask: u32) -> Result<List<u8>, Memory>
+pub(crate) fn pcrs_in(alloc: Global, mask: u32) -> Result<List<u8>, Memory>
     ensures { IfOk result (λ pcrs. pcrs ≡ pcrs_of mask) }
 {
     let mut pcrs = List::new(alloc);

@@ -1,7 +1,8 @@
 //! What no clause says: printed texts and spelled requests, each public call with ample memory.
 use crate::{
-    Answer, Place, Request, WordsError, answer_line, components_text, enrolled_line, key_line,
-    predict_text, read_words, records_line, split_line, status_line,
+    Answer, Place, Request, WordsError, answer_line, checked_line, components_text, enrolled_line,
+    key_line, locked_line, pin_line, predict_text, proved_line, read_words, records_line,
+    split_line, status_line, unlocked_line,
 };
 use component_tree::{Tree, load_tree};
 use hash_bank::{Bank, Digest};
@@ -695,6 +696,98 @@ fn answers_are_told(rt: HostRuntime) -> Result<(), Fail> {
         Answer::BankAbsent(Bank::Sha512),
         "bank absent: sha512\n",
     )?;
+    Ok(())
+}
+
+#[test]
+fn answers_of_policies_are_told(rt: HostRuntime) -> Result<(), Fail> {
+    let once = Digest::from_hex(Bank::Sha256, ONCE)?;
+    let twice = Digest::from_hex(Bank::Sha256, TWICE)?;
+    check_answer(
+        &rt,
+        Answer::NotForeseen {
+            pcrs: 1 << 11,
+            now: once,
+        },
+        "not foreseen: pcr 11 holds 589f9ffed4c477966bfb8d41f37895b08c69047df8f911d6f3b57fbe08faee8d\n",
+    )?;
+    check_answer(
+        &rt,
+        Answer::NotForeseen {
+            pcrs: 1 | 1 << 4 | 1 << 11,
+            now: once,
+        },
+        "not foreseen: pcrs 0,4,11 hold 589f9ffed4c477966bfb8d41f37895b08c69047df8f911d6f3b57fbe08faee8d\n",
+    )?;
+    check_answer(
+        &rt,
+        Answer::IndexTaken {
+            handle: 0x01800100,
+            name: once,
+        },
+        "index taken: 01800100 589f9ffed4c477966bfb8d41f37895b08c69047df8f911d6f3b57fbe08faee8d\n",
+    )?;
+    check_answer(
+        &rt,
+        Answer::Outdated {
+            index: once,
+            file: twice,
+        },
+        "outdated: index 589f9ffed4c477966bfb8d41f37895b08c69047df8f911d6f3b57fbe08faee8d, file bdeb6c6dc63852834c89f67066194207ce7d3806ea40ca58dc079246ef58a926\n",
+    )?;
+    check_answer(
+        &rt,
+        Answer::PinRefused {
+            given: twice,
+            index: once,
+        },
+        "pin refused: given bdeb6c6dc63852834c89f67066194207ce7d3806ea40ca58dc079246ef58a926, index 589f9ffed4c477966bfb8d41f37895b08c69047df8f911d6f3b57fbe08faee8d\n",
+    )?;
+    Ok(())
+}
+
+#[test]
+fn further_answers_are_told(rt: HostRuntime) -> Result<(), Fail> {
+    let name = Name::from_text(rt.alloc(), "x y")?;
+    check_answer(&rt, Answer::NothingProtected, "nothing protected\n")?;
+    check_answer(&rt, Answer::NoPolicy(name), "no policy: x y\n")?;
+    check_answer(&rt, Answer::NoIndex(0x01800100), "no index: 01800100\n")?;
+    check_answer(
+        &rt,
+        Answer::UnwrittenIndex(0x01ffffff),
+        "unwritten index: 01ffffff\n",
+    )?;
+    check_answer(&rt, Answer::NoSeparator(2), "no separator: pcr 2\n")?;
+    check_answer(&rt, Answer::NotProved(1), "not proved: line 1\n")?;
+    Ok(())
+}
+
+#[test]
+fn further_commands_print_lines(rt: HostRuntime) -> Result<(), Fail> {
+    assert_eq!(rt;
+        pin_line(rt.alloc(), &[1; 32])?.as_slice(),
+        b"pin 0101010101010101010101010101010101010101010101010101010101010101\n".as_slice()
+    );
+    assert_eq!(rt;
+        locked_line(rt.alloc(), 0, Some(256))?.as_slice(),
+        b"locked 0 256\n".as_slice()
+    );
+    assert_eq!(rt;
+        locked_line(rt.alloc(), 1, None)?.as_slice(),
+        b"locked 1\n".as_slice()
+    );
+    assert_eq!(rt;
+        unlocked_line(rt.alloc(), 2)?.as_slice(),
+        b"unlocked 2\n".as_slice()
+    );
+    assert_eq!(rt;
+        proved_line(rt.alloc(), 4)?.as_slice(),
+        b"proved 4\n".as_slice()
+    );
+    assert_eq!(rt;
+        checked_line(rt.alloc(), 0)?.as_slice(),
+        b"checked 0\n".as_slice()
+    );
     Ok(())
 }
 

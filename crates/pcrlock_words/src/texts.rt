@@ -1,9 +1,12 @@
 ghost use Rattle.std.specs.Prelude.{◌≡◌, IfOk, string_bytes};
-ghost use Rattle.pcrlock_words.specs.Texts.{answer_text, enrolled_text, handle_text, key_text, records_text, status_text};
+ghost use Rattle.pcrlock_words.specs.Texts.{answer_text, checked_text, enrolled_text, handle_text, key_text, locked_text, pin_text, proved_text, records_text, status_text, unlocked_text, unmet_text};
 
 use crate::answer::Answer;
+use crate::predict::{pcrs_in, write_pcrs};
+use hash_bank::Digest;
 use pl_base::{Memory, Small};
 use std::alloc::Global;
+use std::fmt::Write;
 
 /// The line that names the handle of the object that `enroll` sealed.
 #[tactic(auto, unfolding(crate::specs::Texts::enrolled_text))]
@@ -39,6 +42,51 @@ pub fn status_line(alloc: Global, status: u8) -> Result<Vec<u8>, Memory>
     Ok(format!(in alloc; "= {status}\n")?.into_bytes())
 }
 
+/// The line of a pin that `make-policy` drew.
+#[tactic(auto, unfolding(crate::specs::Texts::pin_text))]
+pub fn pin_line(alloc: Global, pin: &[u8; 32]) -> Result<Vec<u8>, Memory>
+    ensures { IfOk result (λ line. line.items ≡ pin_text pin.now) }
+{
+    let pin = hex::encode(alloc, pin)?;
+    Ok(format!(in alloc; "pin {pin}\n")?.into_bytes())
+}
+
+/// The line that says how many records before and behind the separators of their PCRs a lock of the firmware wrote,
+/// or, with one number, how many a lock of some bytes did.
+#[tactic(auto, unfolding(crate::specs::Texts::locked_text))]
+pub fn locked_line(alloc: Global, early: u32, late: Option<u32>) -> Result<Vec<u8>, Memory>
+    ensures { IfOk result (λ line. line.items ≡ locked_text early late) }
+{
+    match late {
+        Some(late) => Ok(format!(in alloc; "locked {early} {late}\n")?.into_bytes()),
+        None => Ok(format!(in alloc; "locked {early}\n")?.into_bytes()),
+    }
+}
+
+/// The line that says how many files an unlock removed.
+#[tactic(auto, unfolding(crate::specs::Texts::unlocked_text))]
+pub fn unlocked_line(alloc: Global, count: u32) -> Result<Vec<u8>, Memory>
+    ensures { IfOk result (λ line. line.items ≡ unlocked_text count) }
+{
+    Ok(format!(in alloc; "unlocked {count}\n")?.into_bytes())
+}
+
+/// The line that says how many proofs `prove` wrote.
+#[tactic(auto, unfolding(crate::specs::Texts::proved_text))]
+pub fn proved_line(alloc: Global, count: u32) -> Result<Vec<u8>, Memory>
+    ensures { IfOk result (λ line. line.items ≡ proved_text count) }
+{
+    Ok(format!(in alloc; "proved {count}\n")?.into_bytes())
+}
+
+/// The line that says how many proofs `check-proof` found right.
+#[tactic(auto, unfolding(crate::specs::Texts::checked_text))]
+pub fn checked_line(alloc: Global, count: u32) -> Result<Vec<u8>, Memory>
+    ensures { IfOk result (λ line. line.items ≡ checked_text count) }
+{
+    Ok(format!(in alloc; "checked {count}\n")?.into_bytes())
+}
+
 /// The line on standard error that tells an answer.
 pub fn answer_line(alloc: Global, answer: &Answer) -> Result<Vec<u8>, Memory>
     ensures { IfOk result (λ line. line.items ≡ answer_text answer.now) }
@@ -52,6 +100,7 @@ fn answer_words(alloc: Global, answer: &Answer) -> Result<String, Memory>
     ensures { IfOk result (λ line. string_bytes line ≡ answer_text answer.now) }
 {
     match answer {
+        Answer::NotForeseen { pcrs, now } => unmet_words(alloc, *pcrs, now),
         Answer::NotLiteral { pcr, now, sealed } => {
             Ok(format!(in alloc; "not literal: pcr {pcr} holds {now}, sealed to {sealed}\n")?)
         }
@@ -104,7 +153,49 @@ fn answer_words(alloc: Global, answer: &Answer) -> Result<String, Memory>
             let variant = variant.text();
             Ok(format!(in alloc; "no digest: {component} {variant} {place}\n")?)
         }
+        Answer::NothingProtected => Ok(format!(in alloc; "nothing protected\n")?),
+        Answer::NoPolicy(path) => {
+            let path = path.text();
+            Ok(format!(in alloc; "no policy: {path}\n")?)
+        }
+        Answer::NoIndex(handle) => {
+            let handle = handle_digits(alloc, *handle)?;
+            Ok(format!(in alloc; "no index: {handle}\n")?)
+        }
+        Answer::UnwrittenIndex(handle) => {
+            let handle = handle_digits(alloc, *handle)?;
+            Ok(format!(in alloc; "unwritten index: {handle}\n")?)
+        }
+        Answer::IndexTaken { handle, name } => {
+            let handle = handle_digits(alloc, *handle)?;
+            Ok(format!(in alloc; "index taken: {handle} {name}\n")?)
+        }
+        Answer::Outdated { index, file } => {
+            Ok(format!(in alloc; "outdated: index {index}, file {file}\n")?)
+        }
+        Answer::PinRefused { given, index } => {
+            Ok(format!(in alloc; "pin refused: given {given}, index {index}\n")?)
+        }
+        Answer::NoSeparator(pcr) => Ok(format!(in alloc; "no separator: pcr {pcr}\n")?),
+        Answer::NotProved(line) => Ok(format!(in alloc; "not proved: line {line}\n")?),
     }
+}
+
+// The line of a row that isn't met.
+fn unmet_words(alloc: Global, mask: u32, now: &Digest) -> Result<String, Memory>
+    ensures { IfOk result (λ line. string_bytes line ≡ unmet_text mask now.now) }
+{
+    let pcrs = pcrs_in(alloc, mask)?;
+    let mut line = String::new(alloc);
+    match pcrs.as_slice() {
+        [pcr] => write!(line, "not foreseen: pcr {pcr} holds {now}\n")?,
+        several => {
+            write!(line, "not foreseen: pcrs ")?;
+            write_pcrs(&mut line, several)?;
+            write!(line, " hold {now}\n")?
+        }
+    }
+    Ok(line)
 }
 
 // A handle as eight hexadecimal digits.

@@ -27,3 +27,18 @@ pub returns-in_ok-format-in-NoDigest : goal.returns-in_ok-format-in-NoDigest
 unfolding answer_text
 returns-in_ok-format-in-NoDigest c =
     rw (c.in-NoDigest.is, c.in_ok-format-in-NoDigest.ensures.ok, c.text-component.ensures, c.text-variant.ensures) (simp append_assoc)
+
+pub returns-in_ok-format-in-IndexTaken : goal.returns-in_ok-format-in-IndexTaken
+unfolding answer_text
+returns-in_ok-format-in-IndexTaken c =
+    rw (c.in-IndexTaken.is, c.in_ok-format-in-IndexTaken.ensures.ok, c.in_ok-handle-in-IndexTaken.ensures) (simp append_assoc)
+
+pub returns-in_ok-format-in-Outdated : goal.returns-in_ok-format-in-Outdated
+unfolding answer_text
+returns-in_ok-format-in-Outdated c =
+    rw (c.in-Outdated.is, c.in_ok-format-in-Outdated.ensures.ok) (simp append_assoc)
+
+pub returns-in_ok-format-in-PinRefused : goal.returns-in_ok-format-in-PinRefused
+unfolding answer_text
+returns-in_ok-format-in-PinRefused c =
+    rw (c.in-PinRefused.is, c.in_ok-format-in-PinRefused.ensures.ok) (simp append_assoc)
