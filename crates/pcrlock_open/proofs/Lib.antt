@@ -1,6 +1,8 @@
+pub mod BoundEnds
 pub mod Endings
 pub mod Gives
 pub mod Opens
 pub mod SameValues
 pub mod Stops
 pub mod Ties
+pub mod BoundGives

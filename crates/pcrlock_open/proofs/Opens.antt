@@ -1,34 +1,28 @@
 -- An unseal by a literal prints the key exactly where the PCR holds the literal's value.
-use Rattle.std.proofs.Common.{◌≡◌, ◌↔◌, ◌⊎◌, ℕ, ◌<◌, ◌≤◌, Bool, true, false, cond, List, ◌++◌, length, inl, inr, refl, sym, ap, subst, ◌∙◌, arith, Contains}
-use Rattle.std.specs.Prelude.{Option, None, Some, nat_le, codes, Result, Ok, Err, IfOk}
+use Rattle.std.proofs.Common.{◌≡◌, ◌↔◌, ℕ, ◌<◌, Bool, true, false, cond, List, ◌++◌, length, refl, sym, ap, subst, ◌∙◌, Contains}
+use Rattle.std.specs.Prelude.{Option, None, Some, Result, Ok, Err, IfOk}
 use Rattle.std.specs.Str.{bytes_eq}
 use Rattle.std.proofs.lemmas.Bool.{lt-leb}
 use Rattle.std.proofs.lemmas.Slice.Eq.{bytes_eq-Decides}
 use Rattle.std.proofs.lemmas.List.Elements.{Contains-append_right}
 use Rattle.hash_bank.specs.HashedString.{HashedString, NoClash}
 use Rattle.policy_file.specs.declared.token.Literal.{Literal}
-use Rattle.policy_file.specs.declared.token.Token.{Token}
 use Rattle.policy_file.specs.declared.token.Token.TheVariants as token
-use Rattle.policy_file.specs.declared.error.FileError.{FileError}
-use Rattle.policy_file.specs.TokenText.{IsToken, token_text}
-use Rattle.policy_file.specs.TokenReading.{token_in}
 use Rattle.policy_file.proofs.Tokens.{token_again}
 use Rattle.tpm_model.specs.declared.object.Object.{Object}
 use Rattle.tpm_model.specs.declared.parts.Parts.{Parts}
 use Rattle.tpm_model.specs.Binding.{literal_policy}
 use Rattle.tpm_model.specs.Sessions.{object_at}
 use Rattle.tpm_model.specs.World.{World}
-use Rattle.tpm_model.specs.Tied.{Tied, IsHeld}
 use Rattle.pcrlock_words.specs.Texts.{key_text}
 use Rattle.pcrlock_words.specs.declared.answer.Answer.TheVariants as said
 use Rattle.pcrlock_line.specs.Machine.{Live, machine}
-use Rattle.pcrlock_line.specs.Content.{Content, content_of, Bytes}
 use Rattle.pl_base.specs.FileMap.{FileMap}
 use Rattle.tpm_device.specs.Stored.{Stored}
 use Rattle.pcrlock_line.specs.declared.reply.Reply.{Reply}
 use Rattle.pcrlock_line.specs.declared.stop.Stop.{Stop}
-use Rattle.pcrlock_line.specs.Outcome.{Ending, Fine, Refused, Outcome, Gives, ending_of}
-use Rattle.pcrlock_open.specs.Unseal.{unseal_line, content_line, token_line, unsealed_line, literal_ending, value_ending, object_ending, present_value}
+use Rattle.pcrlock_line.specs.Outcome.{Fine, Refused, Gives, ending_of}
+use Rattle.pcrlock_open.specs.Unseal.{unseal_line, content_line, token_line, literal_ending, value_ending, object_ending, present_value}
 use Rattle.pcrlock_open.specs.Headline.{IsEnrolled, IsSafe, OpensExactly}
 
 -- strings that don't clash among more don't clash

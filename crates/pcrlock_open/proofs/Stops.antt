@@ -49,7 +49,7 @@ stops_so s (Ok reply) now h = tt
 stops_so s (Err stop) now h = h
 
 -- the state differs at most in sessions
-differs : {before now : Parts} → DiffersInSessions before now → Differs before now
+pub differs : {before now : Parts} → DiffersInSessions before now → Differs before now
 differs d = record { banks = d.banks; pcrs = d.pcrs; update_counter = d.update_counter; write_counter = d.write_counter; next_object = d.next_object; indices = d.indices; objects = d.objects }
 
 -- beside files that are as before

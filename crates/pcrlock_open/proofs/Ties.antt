@@ -11,13 +11,12 @@ use Rattle.tpm_model.specs.declared.parts.Parts.{Parts}
 use Rattle.tpm_model.specs.World.{World}
 use Rattle.tpm_device.specs.Stored.{Stored, Holds}
 use Rattle.tpm_device.specs.Stored as stored
-use Rattle.policy_session.specs.LiteralUnseal.{after_unseal}
 use Rattle.pcrlock_line.specs.Machine.{Machine}
 use Rattle.pcrlock_line.specs.Content.{Content, Missing, TooLarge, Bytes, content_of}
 use Rattle.pcrlock_line.specs.Begun.{by_device}
 use Rattle.pcrlock_line.specs.Worlds.{IsTied, IsTiedTo}
 use Rattle.tpm_model.proofs.Ties.{same_tied}
-use Rattle.pcrlock_open.specs.Unseal.{unsealed_line, literal_line, token_line, content_line, unseal_line}
+use Rattle.pcrlock_open.specs.Unseal.{unsealed_line, token_line, content_line, unseal_line}
 
 -- but for the number of the next session the state is as before
 session_tied : (s : Parts) (w : World) (none : Bool) → IsTiedTo s w → IsTiedTo (cond none s (record s { next_session = s.next_session + 1 })) w

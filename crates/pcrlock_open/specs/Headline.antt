@@ -1,5 +1,5 @@
 -- When the key of an object that is sealed to one value comes out, told by the value of its PCR.
-use Rattle.std.specs.Prelude.{◌≡◌, ◌↔◌, ℕ, ◌<◌, ◌++◌, List, length, Contains, Option, Some}
+use Rattle.std.specs.Prelude.{◌≡◌, ◌↔◌, ℕ, ◌<◌, ◌++◌, List, length, Contains, Some}
 use Rattle.std.specs.FinMap.{get}
 use Rattle.hash_bank.specs.HashedString.{NoClash}
 use Rattle.policy_file.specs.declared.token.Literal.{Literal}

@@ -1,3 +1,5 @@
+pub mod Bound
+pub mod BoundEndings
 pub mod Endings
 pub mod Headline
 pub mod TokenRead

@@ -16,7 +16,6 @@ use Rattle.tpm_model.specs.Binding.{literal_policy}
 use Rattle.tpm_model.specs.Pcrs.{pcr_of}
 use Rattle.tpm_model.specs.Sessions.{object_at}
 use Rattle.policy_session.specs.LiteralUnseal.{after_unseal}
-use Rattle.pcrlock_words.specs.declared.answer.Answer.{Answer}
 use Rattle.pcrlock_words.specs.declared.answer.Answer.TheVariants as said
 use Rattle.pcrlock_words.specs.declared.place.Place.TheVariants as place
 use Rattle.pcrlock_words.specs.Texts.{key_text}

@@ -2,7 +2,9 @@
 #![tactic(auto)]
 
 mod answers;
+mod bound;
 mod opening;
 mod token;
 
+pub use crate::bound::open_bound;
 pub use crate::opening::unseal;

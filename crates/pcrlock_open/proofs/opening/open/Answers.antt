@@ -1,10 +1,10 @@
-use Rattle.std.proofs.Common.{◌≡◌, sym, ap, ◌∙◌, Contains}
+use Rattle.std.proofs.Common.{sym, ap, ◌∙◌, Contains}
 use Rattle.std.specs.Prelude.{Some, IfOk, IfErr}
 use Rattle.hash_bank.specs.HashedString.{NoClash}
 use Rattle.pcrlock_line.specs.declared.reply.Reply.{Reply}
 use Rattle.pcrlock_line.specs.Outcome.{Outcome, Gives}
 use Rattle.pcrlock_line.specs.Stopped.{StandsAmong}
-use Rattle.pcrlock_line.proofs.Devices.{begun_by, tells_begun, kept_tells, told_live, gives_refused, stops_first, stands}
+use Rattle.pcrlock_line.proofs.Devices.{begun_by, tells_begun, kept_tells, gives_refused, stops_first, stands}
 use Rattle.pcrlock_open.specs.Unseal.{unsealed_line}
 use Rattle.pcrlock_open.proofs.Gives.{gives_opened}
 use Rattle.pcrlock_open.proofs.Stops.{stopped, first_stop}

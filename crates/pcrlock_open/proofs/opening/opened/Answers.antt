@@ -1,5 +1,4 @@
-use Rattle.std.proofs.Common.{ap, ◌∙◌, refl}
-use Rattle.std.specs.Prelude.{Err}
+use Rattle.std.proofs.Common.{ap, ◌∙◌}
 use Rattle.pcrlock_line.proofs.Composed.{then, stops, on_files, on_tpm}
 use Rattle.pcrlock_open.specs.TokenRead.{read_line}
 use Rattle.pcrlock_line.proofs.Devices.{stands}

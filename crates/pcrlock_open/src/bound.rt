@@ -1,0 +1,222 @@
+//! Opening an object that is bound to an index, by a policy that was read.
+ghost use Rattle.std.specs.Prelude.{◌≡◌, ◌+◌, ℕ, true, List as Sequence, drop, map, Option, Some, Ok, Err, IfOk, IfErr};
+ghost use Rattle.std.specs.List.{Contains};
+ghost use Rattle.hash_bank.specs.HashedString.{NoClash};
+ghost use Rattle.nv_index.specs.declared.index.NvPublic.{NvPublic as Public};
+ghost use Rattle.pl_base.specs.FileMap.{FileMap};
+ghost use Rattle.policy_file.specs.PolicyText.{IsPolicy};
+ghost use Rattle.policy_file.specs.TokenText.{IsObject};
+ghost use Rattle.policy_session.specs.Answers.{is_answer, is_refusal};
+ghost use Rattle.policy_session.specs.BoundUnseal.{IsNeverLiteral};
+ghost use Rattle.policy_session.specs.Kept.{Kept};
+ghost use Rattle.tpm_device.specs.Stored.{Holds};
+ghost use Rattle.tpm_model.specs.declared.parts.Parts.{Parts};
+ghost use Rattle.tpm_model.specs.Rules.{HasRules};
+ghost use Rattle.pcrlock_line.specs.Causes.{HasCauses};
+ghost use Rattle.pcrlock_line.specs.Machine.{Machine, Tells};
+ghost use Rattle.pcrlock_line.specs.Outcome.{Gives, ending_of};
+ghost use Rattle.pcrlock_words.specs.declared.answer.Answer.TheVariants as said;
+ghost use Rattle.pcrlock_line.specs.Stopped.{StandsAmong};
+ghost use Rattle.pcrlock_open.specs.Bound.{bound_line, held_after, held_by, held_ending, held_strings};
+ghost use Rattle.pcrlock_open.specs.BoundEndings.{IsChoice, IsEnded, IsOutdated, bound_answer as bound_answer_of, bound_ending};
+ghost use Rattle.pcrlock_open.specs.Endings.{IsStopAfter, IsStopFor};
+
+use crate::answers::limit;
+use hash_bank::Digest;
+use pcrlock_line::{Reply, Stop, ready};
+use pcrlock_words::{Answer, key_line};
+use pl_base::{Name, Small};
+use policy_file::Policy;
+use policy_session::{
+    IndexError, PrepareError, Prepared, UnsealError, prepare, read_index, unseal_bound,
+};
+use std::alloc::Global;
+use tpm_device::Tpm;
+
+/// The answer for a refusal.
+fn bound_answer(alloc: Global, error: &UnsealError) -> Result<Answer, Stop>
+    requires { IsNeverLiteral error.now }
+    ensures told { IfOk result (λ answer. (answer ≡ bound_answer_of error.now) × (is_refusal error.now ≡ true)) }
+    ensures cause { IfErr result (λ stop. IsStopFor error.now stop) }
+{
+    match error {
+        UnsealError::SessionsFull => Ok(Answer::SessionsFull),
+        UnsealError::HandlesEnd => match limit(alloc, "handles", 0x0100_0000) {
+            Ok(answer) => Ok(answer),
+            Err(_) => Err(Stop::Memory),
+        },
+        UnsealError::BankAbsent(bank) => Ok(Answer::BankAbsent(*bank)),
+        UnsealError::NotForeseen { pcrs, now } => Ok(Answer::NotForeseen {
+            pcrs: *pcrs,
+            now: *now,
+        }),
+        UnsealError::NotLiteral { .. } => unreachable!(),
+        UnsealError::NoObject(object) => Ok(Answer::NoObject(*object)),
+        UnsealError::WrongBinding { session, object } => Ok(Answer::WrongBinding {
+            session: *session,
+            object: *object,
+        }),
+        UnsealError::Failed => Err(Stop::TpmFault),
+        UnsealError::Memory => Err(Stop::Memory),
+    }
+}
+
+/// The reply for the client's result.
+fn bound_reply(alloc: Global, opened: &Result<Small, UnsealError>) -> Result<Reply, Stop>
+    requires { IfErr opened.now IsNeverLiteral }
+    ensures told { IfOk result (λ reply. (ending_of reply ≡ bound_ending opened.now) × (is_answer opened.now ≡ true)) }
+    ensures cause { IfErr result (λ stop. IsStopAfter opened.now stop) }
+{
+    match opened {
+        Ok(secret) => match key_line(alloc, secret) {
+            Ok(line) => Ok(Reply::Fine(line)),
+            Err(_) => Err(Stop::Memory),
+        },
+        Err(error) => match bound_answer(alloc, error) {
+            Ok(answer) => Ok(Reply::Refused(answer)),
+            Err(stop) => Err(stop),
+        },
+    }
+}
+
+/// The answer where the index holds the root of none of the tables.
+fn outdated(content: &Small, newest: &Digest) -> Result<Answer, Stop>
+    ensures told { IfOk result (λ answer. answer ≡ said.Outdated (drop 2 content.now) newest.now) }
+    ensures cause { IfErr result (λ stop. stop ≡ Stop.Memory) }
+{
+    let [_, _, root @ ..] = content.as_slice() else {
+        return Err(Stop::Memory);
+    };
+    match Digest::from_slice(root) {
+        Some(index) => Ok(Answer::Outdated {
+            index,
+            file: *newest,
+        }),
+        None => Err(Stop::Memory),
+    }
+}
+
+/// The answer where no walk was prepared.
+fn unprepared(error: &PrepareError) -> Result<Answer, Stop>
+    ensures told { IfOk result (λ answer. IsOutdated error.now answer) }
+    ensures cause { IfErr result (λ stop. stop ≡ Stop.Memory) }
+{
+    match error {
+        PrepareError::Outdated { content, newest } => outdated(content, newest),
+        PrepareError::Memory => Err(Stop::Memory),
+    }
+}
+
+/// The walk by the table whose root the index holds, or the answer where it holds that of none.
+#[tactic(auto, using(crate::proofs::BoundEnds::chosen_walk, crate::proofs::BoundEnds::chosen_none))]
+fn choose(alloc: Global, policy: &Policy, content: &Small) -> Result<Result<Prepared, Answer>, Stop>
+    requires { IsPolicy policy.now }
+    ensures told { IfOk result (IsChoice policy.now content.now) }
+    ensures cause { IfErr result (λ stop. stop ≡ Stop.Memory) }
+{
+    match prepare(alloc, policy.tables.as_slice(), policy.handle, content) {
+        Ok(prepared) => Ok(Ok(prepared)),
+        Err(error) => match unprepared(&error) {
+            Ok(answer) => Ok(Err(answer)),
+            Err(stop) => Err(stop),
+        },
+    }
+}
+
+/// Opens the object on the ready device, by the table whose root the policy's index holds.
+fn open_by<T: Tpm>(
+    alloc: Global,
+    tpm: &mut T,
+    policy: &Policy,
+    content: &Small,
+    object: u32,
+) -> Result<Reply, Stop>
+    requires readiness { T.ready tpm.old ≡ true }
+    requires policy { IsPolicy policy.now }
+    requires object { IsObject object }
+    ensures causes { HasCauses (0, 0, T.faults tpm.old, 0) (0, 0, T.faults tpm.new, 0) result }
+    ensures told { (s : Parts) (public : Public) → T.live tpm.old ≡ Some s → T.stored tpm.old ≡ Some (Holds s) → HasRules s
+        → held_by policy.now s ≡ Ok (public, content.now) → NoClash (Contains (held_strings policy.now s (held_by policy.now s)))
+        → IfOk result (λ reply. IsEnded (held_ending policy.now object s (held_by policy.now s)) (held_after policy.now s (held_by policy.now s)) reply (T.stored tpm.new)) }
+    ensures stops { (s : Parts) (public : Public) → T.live tpm.old ≡ Some s → T.stored tpm.old ≡ Some (Holds s) → HasRules s
+        → held_by policy.now s ≡ Ok (public, content.now) → IfErr result (λ _. Kept s (T.stored tpm.new)) }
+{
+    match choose(alloc, policy, content) {
+        Ok(Ok(prepared)) => {
+            let opened = unseal_bound(alloc, tpm, prepared, object);
+            bound_reply(alloc, &opened)
+        }
+        Ok(Err(answer)) => Ok(Reply::Refused(answer)),
+        Err(stop) => Err(stop),
+    }
+}
+
+/// Reads the policy's index on the ready device, and opens the object.
+fn open_held<T: Tpm>(
+    alloc: Global,
+    tpm: &mut T,
+    policy: &Policy,
+    object: u32,
+) -> Result<Reply, Stop>
+    requires readiness { T.ready tpm.old ≡ true }
+    requires policy { IsPolicy policy.now }
+    requires object { IsObject object }
+    ensures causes { HasCauses (0, 0, T.faults tpm.old, 0) (0, 0, T.faults tpm.new, 0) result }
+    ensures told { (s : Parts) → T.live tpm.old ≡ Some s → T.stored tpm.old ≡ Some (Holds s) → HasRules s
+        → NoClash (Contains (held_strings policy.now s (held_by policy.now s)))
+        → IfOk result (λ reply. IsEnded (held_ending policy.now object s (held_by policy.now s)) (held_after policy.now s (held_by policy.now s)) reply (T.stored tpm.new)) }
+    ensures stops { (s : Parts) → T.live tpm.old ≡ Some s → T.stored tpm.old ≡ Some (Holds s) → HasRules s → IfErr result (λ _. Kept s (T.stored tpm.new)) }
+{
+    match read_index(alloc, tpm, policy.handle) {
+        Ok(held) => open_by(alloc, tpm, policy, &held.1, object),
+        Err(IndexError::NoIndex) => Ok(Reply::Refused(Answer::NoIndex(policy.handle))),
+        Err(IndexError::Unwritten) => Ok(Reply::Refused(Answer::UnwrittenIndex(policy.handle))),
+        Err(IndexError::Failed) => Err(Stop::TpmFault),
+        Err(IndexError::Memory) => Err(Stop::Memory),
+    }
+}
+
+/// Makes the device ready, whose state stands at the path, and opens the object that is bound to the policy's index,
+/// by the table whose root the index holds.
+///
+/// The answers for which it doesn't, the first whose cause holds:
+///
+/// | Answer | Cause |
+/// |---|---|
+/// | `Limit`, `state-bytes` | the TPM's state file has this many bytes, more than a state may have |
+/// | `Malformed` | the TPM's state file spells no state, or one that breaks a rule |
+/// | `NoIndex` | no index has the policy's handle (TPM 2.0 Library Part 3, TPM2_NV_ReadPublic) |
+/// | `UnwrittenIndex` | it was never written (TPM2_NV_Read) |
+/// | `Outdated` | it holds the root of none of the policy's tables |
+/// | `SessionsFull` | 64 sessions are open (TPM2_StartAuthSession) |
+/// | `Limit`, `handles` | all numbers of sessions, 0x01000000, were used |
+/// | `BankAbsent` | the TPM lacks the table's bank (TPM2_PolicyPCR) |
+/// | `NotForeseen` | a row of the table doesn't list what its PCRs hold: the first such row |
+/// | `NoObject` | no object has the handle (TPM2_Unseal) |
+/// | `WrongBinding` | the object's policy isn't that of the index (TPM2_Unseal) |
+///
+/// The values are never compared, but the digests of policies are: that this is the same is told where the strings that
+/// are hashed don't clash. The TPM stays as it is, but for the number of a session that was opened and ended. It stops
+/// with `TpmFault` or `Memory`; then the session may stay open.
+pub fn open_bound<T: Tpm>(
+    alloc: Global,
+    tpm: &mut T,
+    state: &Name,
+    policy: &Policy,
+    object: u32,
+) -> Result<Reply, Stop>
+    requires policy { IsPolicy policy.now }
+    requires object { IsObject object }
+    ensures causes { HasCauses (0, 0, T.faults tpm.old, 0) (0, 0, T.faults tpm.new, 0) result }
+    ensures told { (held : Option FileMap) (words : Option (Sequence (Sequence ℕ))) (m : Machine) → Tells held (T.stored tpm.old) words m
+        → NoClash (Contains (bound_line state.now policy.now object m).hashed)
+        → IfOk result (λ reply. Gives held (T.stored tpm.new) words reply (bound_line state.now policy.now object m)) }
+    ensures stops { (held : Option FileMap) (words : Option (Sequence (Sequence ℕ))) (m : Machine) → Tells held (T.stored tpm.old) words m
+        → IfErr result (λ _. StandsAmong held (T.stored tpm.new) (bound_line state.now policy.now object m).stops) }
+{
+    match ready(alloc, tpm, state) {
+        Ok(None) => open_held(alloc, tpm, policy, object),
+        Ok(Some(answer)) => Ok(Reply::Refused(answer)),
+        Err(stop) => Err(stop),
+    }
+}
