@@ -1,0 +1,4 @@
+pub mod Ended
+pub mod Flushes
+pub mod Passing
+pub mod InOrder

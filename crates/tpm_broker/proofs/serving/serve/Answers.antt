@@ -1,0 +1,39 @@
+use Rattle.std.proofs.Common.{inl, inr, ◌+◌, ◌<◌, length, take, ap, ◌∙◌, arith}
+use Rattle.std.specs.Prelude.{Some}
+use Rattle.tpm_broker.specs.Lists.{state_left}
+use Rattle.tpm_broker.proofs.InOrder.{answers_next, clients_next, state_next}
+use Rattle.tpm_broker.proofs.serving.serve.Goals as goal
+
+pub returns-in-Err-clause-stopped : goal.returns-in-Err-clause-stopped
+returns-in-Err-clause-stopped g c = λ s live.
+    let i = c.loop-one.one-index in
+    let asked = c.args.asked.now in
+    let so_far = c.loop-one.invariant.told s live in
+    let within : i < length asked = c.loop-one-test.true in
+    elim (c.in-Err.ensures.stopped (state_left (take i asked) c.args.broker.now s) so_far.state) [
+      | inl same ↦ (i, omega arith, same.0 ∙ so_far.clients_are, same.1)
+      | inr done ↦ (
+        i + 1,
+        omega arith,
+        done.0 ∙ clients_next asked i c.one-item.result c.args.broker.now c.loop-one.broker s within c.one-item.is so_far.clients_are,
+        λ _. done.1 ∙ ap Some (state_next asked i c.one-item.result c.args.broker.now c.loop-one.broker s within c.one-item.is so_far.clients_are),
+      )
+    ]
+
+pub loop-one-preserved : goal.loop-one-preserved
+loop-one-preserved g c =
+    let i = c.loop-one.one-index in
+    let asked = c.args.asked.now in
+    record {
+      ready = c.in-Ok.ensures.readiness;
+      later = omega (arith, c.loop-one.invariant.later, c.in-Ok.ensures.cause.later);
+      count = c.in-Ok.ensures.count ∙ c.loop-one.invariant.count;
+      told = λ s live.
+        let so_far = c.loop-one.invariant.told s live in
+        let out = c.in-Ok.ensures.told (state_left (take i asked) c.args.broker.now s) so_far.state in
+        record {
+          answers = out.0 ∙ answers_next asked i c.one-item.result c.args.broker.now c.loop-one.broker s c.loop-one.responses c.loop-one-test.true c.one-item.is so_far.clients_are so_far.answers;
+          clients_are = out.1 ∙ clients_next asked i c.one-item.result c.args.broker.now c.loop-one.broker s c.loop-one-test.true c.one-item.is so_far.clients_are;
+          state = out.2 ∙ ap Some (state_next asked i c.one-item.result c.args.broker.now c.loop-one.broker s c.loop-one-test.true c.one-item.is so_far.clients_are);
+        };
+    }

@@ -1,0 +1,4 @@
+pub mod Clients
+pub mod Served
+pub mod Leaving
+pub mod Lists
