@@ -1,5 +1,5 @@
 -- What the broker answers to a command of a client, and leaves.
-use Rattle.std.specs.Prelude.{◌≡◌, ℕ, nat_le, ◌==◌, Bool, true, false, not, if◌then◌else◌, List, map, length, Option, None, Some, Result, Ok, Err}
+use Rattle.std.specs.Prelude.{◌≡◌, ◌⊎◌, ℕ, nat_le, ◌==◌, Bool, true, false, not, if◌then◌else◌, List, map, length, Option, None, Some, Result, Ok, Err}
 use Rattle.hash_bank.specs.declared.bank.Bank.{Bank}
 use Rattle.tpm_model.specs.declared.command.Command.{Command}
 use Rattle.tpm_model.specs.declared.command.Command.TheVariants as command
@@ -11,6 +11,7 @@ use Rattle.tpm_model.specs.declared.parts.Parts.{Parts}
 use Rattle.tpm_model.specs.Respond.{respond}
 use Rattle.tpm_model.specs.SessionCommands.{session_handle}
 use Rattle.tpm_model.specs.Sessions.{is_session_hash}
+use Rattle.tpm_device.specs.Stored.{Stored, Holds}
 use Rattle.tpm_device.specs.declared.device.ExecError.{ExecError}
 use Rattle.tpm_device.specs.declared.device.ExecError.TheVariants as exec
 use Rattle.tpm_broker.specs.declared.plan.Plan.{Plan}
@@ -144,6 +145,12 @@ abbrev pub ServeGives : Served → Parts → Result Response ExecError → List 
 ServeGives out s (Ok response) clients live = (response ≡ out.answer) × (clients ≡ out.clients) × (live ≡ Some out.state)
 ServeGives out s (Err exec.Failed) clients live = Unit {0}
 ServeGives out s (Err exec.Memory) clients live = live ≡ Some s
+
+-- what is stored afterwards: the state that is left; after a failure that or the one before
+abbrev pub ServeStores : Served → Parts → Result Response ExecError → Option Stored → Type 0
+ServeStores out s (Ok response) stored = stored ≡ Some (Holds out.state)
+ServeStores out s (Err exec.Failed) stored = (stored ≡ Some (Holds s)) ⊎ (stored ≡ Some (Holds out.state))
+ServeStores out s (Err exec.Memory) stored = stored ≡ Some (Holds s)
 
 -- where the broker gives an answer of its own, that is the result, and neither the clients nor the device
 -- changed

@@ -6,9 +6,10 @@ ghost use Rattle.tpm_model.specs.declared.response.Response.{Response as Answer}
 ghost use Rattle.tpm_model.specs.Fits.{fits};
 ghost use Rattle.tpm_model.specs.Respond.{respond};
 ghost use Rattle.tpm_model.specs.Rules.{HasRules};
+ghost use Rattle.tpm_device.specs.Stored.{Holds};
 ghost use Rattle.tpm_broker.specs.Clients.{HasRoomFor, changed, client_at, new_client, without_all, without_first};
 ghost use Rattle.tpm_broker.specs.Leaving.{LeaveGives};
-ghost use Rattle.tpm_broker.specs.Served.{AnswersItself, ServeGives, clients_after, clients_done, plan_of, own_answer, served, settled, still_ready, told as told_of};
+ghost use Rattle.tpm_broker.specs.Served.{AnswersItself, ServeGives, ServeStores, clients_after, clients_done, plan_of, own_answer, served, settled, still_ready, told as told_of};
 
 use crate::commands::{on_session, told};
 use crate::leaving::flush_all;
@@ -162,6 +163,8 @@ impl Broker {
         ensures stopped { OnErr result (self.new ≡ self.old) }
         ensures told { (s : Parts) → T.live tpm.old ≡ Some s → ServeGives (settled client command.now (respond passed.now s) self.old) s result self.new (T.live tpm.new) }
         ensures rules { (s : Parts) → T.live tpm.old ≡ Some s → HasRules s → IfSome (T.live tpm.new) HasRules }
+        ensures stored { (s : Parts) → T.live tpm.old ≡ Some s → T.stored tpm.old ≡ Some (Holds s)
+            → ServeStores (settled client command.now (respond passed.now s) self.old) s result (T.stored tpm.new) }
     {
         match tpm.execute(alloc, passed) {
             Ok(response) => Ok(self.answered(client, command, &response)),
@@ -196,6 +199,7 @@ impl Broker {
         ensures stopped { OnErr result (self.new ≡ self.old) }
         ensures told { (s : Parts) → T.live tpm.old ≡ Some s → ServeGives (served client command.now self.old s) s result self.new (T.live tpm.new) }
         ensures rules { (s : Parts) → T.live tpm.old ≡ Some s → HasRules s → IfSome (T.live tpm.new) HasRules }
+        ensures stored { (s : Parts) → T.live tpm.old ≡ Some s → T.stored tpm.old ≡ Some (Holds s) → ServeStores (served client command.now self.old s) s result (T.stored tpm.new) }
     {
         let place = client as usize;
         match self.plan_for(place, command) {

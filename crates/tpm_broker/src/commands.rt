@@ -47,13 +47,7 @@ fn handle_told(command: &Command, handle: u32) -> u32
         Command::Unseal {
             session,
             handle: object,
-        } => {
-            if handle == *object {
-                handle
-            } else {
-                *session
-            }
-        }
+        } => { if handle == *object { handle } else { *session } }
         Command::Restart { .. }
         | Command::PcrExtend { .. }
         | Command::PcrRead { .. }

@@ -7,6 +7,8 @@ mod leaving;
 mod plan;
 mod rows;
 mod serving;
+#[cfg(test)]
+mod tests;
 
 pub use crate::broker::Broker;
 pub use crate::serving::serve;

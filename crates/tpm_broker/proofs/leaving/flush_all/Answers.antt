@@ -11,12 +11,16 @@ pub returns-in-Err-clause-told : goal.returns-in-Err-clause-told
 returns-in-Err-clause-told g c =
     let n = c.loop.counter in
     let xs = c.args.rows.now.sessions in
-    let within : n < length xs = omega (arith, c.count-count.ensures.value) in
-    (n, omega arith, c.in-Err.ensures.stopped ∙ c.loop.invariant.rest, λ s live.
-    let t = after_flushes (take n xs) s in
-    part_flushed xs n s t c.in-Err.stop (g.T.Tpm.live c.flush_first.new.tpm) within refl
-    (subst (λ (ys : List Handles). FlushGives (slice_get ys 0) t (Err c.in-Err.stop) (g.T.Tpm.live c.flush_first.new.tpm)) (ap (λ (r : Client). r.sessions) c.loop.invariant.rest)
-    (c.in-Err.ensures.told t (c.loop.invariant.told s live))))
+    let within : n < length xs = omega (arith, c.count-count.ensures.value) in (
+      n,
+      omega arith,
+      c.in-Err.ensures.stopped ∙ c.loop.invariant.rest,
+      λ s live.
+          let t = after_flushes (take n xs) s in
+          part_flushed xs n s t c.in-Err.stop (g.T.Tpm.live c.flush_first.new.tpm) within refl
+          (subst (λ (ys : List Handles). FlushGives (slice_get ys 0) t (Err c.in-Err.stop) (g.T.Tpm.live c.flush_first.new.tpm)) (ap (λ (r : Client). r.sessions) c.loop.invariant.rest)
+          (c.in-Err.ensures.told t (c.loop.invariant.told s live))),
+    )
 
 pub loop-preserved : goal.loop-preserved
 loop-preserved g c =
@@ -28,16 +32,19 @@ loop-preserved g c =
       later = omega (arith, c.loop.invariant.later, c.in-Ok.ensures.cause.later);
       rest = one_less n c.args.rows.now c.loop.rows c.flush_first.new.rows c.loop.invariant.rest c.in-Ok.ensures.left;
       told = λ s live.
-        let t = after_flushes (take n xs) s in
-        next_flushed xs n s t (g.T.Tpm.live c.flush_first.new.tpm) within refl
-        (subst (λ (ys : List Handles). FlushGives (slice_get ys 0) t (Ok tt) (g.T.Tpm.live c.flush_first.new.tpm)) (ap (λ (r : Client). r.sessions) c.loop.invariant.rest)
-        (c.in-Ok.ensures.told t (c.loop.invariant.told s live)));
+          let t = after_flushes (take n xs) s in
+          next_flushed xs n s t (g.T.Tpm.live c.flush_first.new.tpm) within refl
+          (subst (λ (ys : List Handles). FlushGives (slice_get ys 0) t (Ok tt) (g.T.Tpm.live c.flush_first.new.tpm)) (ap (λ (r : Client). r.sessions) c.loop.invariant.rest)
+          (c.in-Ok.ensures.told t (c.loop.invariant.told s live)));
     }
 
 pub returns-clause-told : goal.returns-clause-told
 returns-clause-told g c =
     let n = c.loop.counter in
     let xs = c.args.rows.now.sessions in
-    let all : length xs ≤ n = omega (arith, c.count-count.ensures.value) in
-    (n, omega (arith, c.count-count.ensures.value), c.loop.invariant.rest,
-    λ s live. c.loop.invariant.told s live ∙ ap (λ ys. Some (after_flushes ys s)) (take_all n xs all))
+    let all : length xs ≤ n = omega (arith, c.count-count.ensures.value) in (
+      n,
+      omega (arith, c.count-count.ensures.value),
+      c.loop.invariant.rest,
+      λ s live. c.loop.invariant.told s live ∙ ap (λ ys. Some (after_flushes ys s)) (take_all n xs all),
+    )

@@ -29,11 +29,11 @@ loop-one-preserved g c =
       later = omega (arith, c.loop-one.invariant.later, c.in-Ok.ensures.cause.later);
       count = c.in-Ok.ensures.count ∙ c.loop-one.invariant.count;
       told = λ s live.
-        let so_far = c.loop-one.invariant.told s live in
-        let out = c.in-Ok.ensures.told (state_left (take i asked) c.args.broker.now s) so_far.state in
-        record {
-          answers = out.0 ∙ answers_next asked i c.one-item.result c.args.broker.now c.loop-one.broker s c.loop-one.responses c.loop-one-test.true c.one-item.is so_far.clients_are so_far.answers;
-          clients_are = out.1 ∙ clients_next asked i c.one-item.result c.args.broker.now c.loop-one.broker s c.loop-one-test.true c.one-item.is so_far.clients_are;
-          state = out.2 ∙ ap Some (state_next asked i c.one-item.result c.args.broker.now c.loop-one.broker s c.loop-one-test.true c.one-item.is so_far.clients_are);
-        };
+          let so_far = c.loop-one.invariant.told s live in
+          let out = c.in-Ok.ensures.told (state_left (take i asked) c.args.broker.now s) so_far.state in
+          record {
+            answers = out.0 ∙ answers_next asked i c.one-item.result c.args.broker.now c.loop-one.broker s c.loop-one.responses c.loop-one-test.true c.one-item.is so_far.clients_are so_far.answers;
+            clients_are = out.1 ∙ clients_next asked i c.one-item.result c.args.broker.now c.loop-one.broker s c.loop-one-test.true c.one-item.is so_far.clients_are;
+            state = out.2 ∙ ap Some (state_next asked i c.one-item.result c.args.broker.now c.loop-one.broker s c.loop-one-test.true c.one-item.is so_far.clients_are);
+          };
     }
