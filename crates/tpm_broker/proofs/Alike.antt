@@ -37,7 +37,7 @@ abbrev pub Both : Type 1
 Both = Response × Parts → Response × Parts → Type 0
 
 -- by one test
-both : (P : Both) (b : Bool) (x y u v : Response × Parts) → P x u → P y v → P (cond b x y) (cond b u v)
+pub both : (P : Both) (b : Bool) (x y u v : Response × Parts) → P x u → P y v → P (cond b x y) (cond b u v)
 both P b x y u v h k = elim b as (λ c. P (cond c x y) (cond c u v)) [ true ↦ h | false ↦ k ]
 
 -- an answer that names no handle, and by which no session starts, changes or ends

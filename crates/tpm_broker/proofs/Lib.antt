@@ -6,3 +6,8 @@ pub mod Firsts
 pub mod Held
 pub mod Beside
 pub mod Alike
+pub mod Plain
+pub mod ToldPlain
+pub mod Steps
+pub mod Starting
+pub mod Others
