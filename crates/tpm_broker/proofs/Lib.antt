@@ -11,3 +11,4 @@ pub mod ToldPlain
 pub mod Steps
 pub mod Starting
 pub mod Others
+pub mod AsAlone

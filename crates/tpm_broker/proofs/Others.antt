@@ -7,7 +7,6 @@ use Rattle.hash_bank.specs.declared.bank.Bank.{Bank}
 use Rattle.tpm_model.specs.declared.command.Command.{Command}
 use Rattle.tpm_model.specs.declared.command.Command.TheVariants as command
 use Rattle.tpm_model.specs.declared.parts.Parts.{Parts}
-use Rattle.tpm_model.specs.declared.response.Response.{Response}
 use Rattle.tpm_model.specs.declared.response.Response.TheVariants as answer
 use Rattle.tpm_model.specs.declared.response.Refusal.TheVariants as refusal
 use Rattle.tpm_model.specs.declared.sessions.Session.{Session}
@@ -15,16 +14,15 @@ use Rattle.tpm_model.specs.Respond.{respond}
 use Rattle.tpm_model.specs.SessionCommands.{digest_on, flush_on, policy_authorize_nv_on, policy_or_on, policy_pcr_on, with_session}
 use Rattle.tpm_model.specs.ObjectCommands.{unseal_on}
 use Rattle.tpm_model.specs.Sessions.{is_session, session_at, session_place}
-use Rattle.tpm_broker.specs.declared.plan.Plan.TheVariants as plan
 use Rattle.tpm_broker.specs.declared.rows.Handles.{Handles}
 use Rattle.tpm_broker.specs.Clients.{Client, client_at, changed, is_own, tpm_handle, without}
-use Rattle.tpm_broker.specs.Served.{clients_after, clients_done, on_session, served, served_by, session_plan, settled, told}
+use Rattle.tpm_broker.specs.Served.{clients_done, on_session, served, served_by, session_plan, settled, told}
 use Rattle.tpm_broker.proofs.Firsts.{first_of, found_is, found_passes, with_is, without_is}
 use Rattle.tpm_broker.proofs.Held.{renamed}
 use Rattle.tpm_broker.proofs.Beside.{Beside, at_other, other_becomes, other_ends, rows_of}
 use Rattle.tpm_broker.proofs.Alike.{Becomes, Ends, Misses, Stays, alike_digest, alike_flush, alike_nv, alike_or, alike_pcr, alike_unseal, alone_state, with_sessions}
 use Rattle.tpm_broker.proofs.ToldPlain.{after_plain}
-use Rattle.tpm_broker.proofs.Steps.{Goes, OnFound, alone_now, by_rows, goes_on, had_of, served_with}
+use Rattle.tpm_broker.proofs.Steps.{Goes, OnFound, alone_now, by_rows, goes_on, served_with}
 
 -- the session that was found has the handle
 same_named : (h : ℕ) (ss : List Session) → option_map (renamed h) (session_at h ss) ≡ session_at h ss

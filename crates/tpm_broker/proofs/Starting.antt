@@ -1,5 +1,5 @@
 -- A start, on the TPM with all clients and for one of them alone.
-use Rattle.std.proofs.Common.{◌≡◌, ℕ, ◌+◌, ◌<◌, ◌≤◌, ◌≢◌, Bool, true, false, cond, not, ◌&&◌, List, [], ◌∷◌, ◌++◌, length, refl, sym, ap, ◌∙◌, subst, arith}
+use Rattle.std.proofs.Common.{◌≡◌, ℕ, ◌+◌, ◌<◌, ◌≤◌, ◌≢◌, true, false, not, ◌&&◌, List, [], ◌∷◌, ◌++◌, length, refl, sym, ap, ◌∙◌, subst, arith}
 use Rattle.std.specs.Prelude.{nat_le}
 use Rattle.std.proofs.lemmas.Bool.{and_from, and_left, and_right, cond-false, cond-true, cond_both, leb-false, lt-leb, not-false, not-true}
 use Rattle.hash_bank.specs.declared.bank.Bank.{Bank}
@@ -13,14 +13,13 @@ use Rattle.tpm_model.specs.Refusing.{refused}
 use Rattle.tpm_model.specs.SessionCommands.{session_handle, start_session}
 use Rattle.tpm_model.specs.Sessions.{fresh_session, is_session_hash}
 use Rattle.tpm_broker.specs.declared.plan.Plan.{Plan}
-use Rattle.tpm_broker.specs.declared.plan.Plan.TheVariants as plan
 use Rattle.tpm_broker.specs.Alone.{one_if_passed, start_of_four}
-use Rattle.tpm_broker.specs.Clients.{Client, changed, client_at, with_started}
-use Rattle.tpm_broker.specs.Served.{Served, served_by, settled, start_plan}
+use Rattle.tpm_broker.specs.Clients.{Client, client_at, with_started}
+use Rattle.tpm_broker.specs.Served.{served_by, settled, start_plan}
 use Rattle.tpm_broker.proofs.Held.{held_length}
 use Rattle.tpm_broker.proofs.Beside.{Beside, at_other, at_same, mine_starts, other_starts, room_for, rows_of}
 use Rattle.tpm_broker.proofs.Alike.{alone_state}
-use Rattle.tpm_broker.proofs.Steps.{Goes, Matches, alone_now, goes_on, goes_up, had_of, served_with}
+use Rattle.tpm_broker.proofs.Steps.{Goes, Matches, alone_now, goes_on, goes_up, served_with}
 
 -- a new session, and its handle
 abbrev begun : Bank → Parts → Response × Parts

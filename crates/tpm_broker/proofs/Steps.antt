@@ -1,9 +1,8 @@
 -- One command, on the TPM with all clients and for one of them alone.
-use Rattle.std.proofs.Common.{◌≡◌, ℕ, ◌+◌, ◌<◌, ◌≤◌, ◌≢◌, ◌==◌, Bool, true, false, cond, not, ◌&&◌, List, [], ◌∷◌, ◌++◌, length, map, refl, sym, ap, ◌∙◌, subst, arith}
-use Rattle.std.specs.Prelude.{Option, None, Some, find, nat_le, remove}
-use Rattle.std.specs.List.{position_or_len}
+use Rattle.std.proofs.Common.{◌≡◌, ℕ, ◌<◌, ◌≤◌, false, cond, List, [], length, refl, sym, ap, ◌∙◌, subst, arith}
+use Rattle.std.specs.Prelude.{Option, None, Some, remove}
 use Rattle.std.specs.Option.{option_map}
-use Rattle.std.proofs.lemmas.Bool.{and_from, and_left, and_right, cond-false, cond-true, cond_both, eq-eqb, eqb-true, leb-false, lt-leb, not-false, not-true}
+use Rattle.std.proofs.lemmas.Bool.{eq-eqb, eqb-true}
 use Rattle.std.proofs.lemmas.List.Folds.{find_at}
 use Rattle.hash_bank.specs.declared.bank.Bank.{Bank}
 use Rattle.tpm_model.specs.declared.command.Command.{Command}
@@ -13,22 +12,21 @@ use Rattle.tpm_model.specs.declared.response.Response.{Response}
 use Rattle.tpm_model.specs.declared.response.Response.TheVariants as answer
 use Rattle.tpm_model.specs.declared.response.Refusal.TheVariants as refusal
 use Rattle.tpm_model.specs.declared.sessions.Session.{Session}
-use Rattle.tpm_model.specs.Refusing.{refused}
 use Rattle.tpm_model.specs.Respond.{respond}
-use Rattle.tpm_model.specs.SessionCommands.{digest_on, flush_on, policy_authorize_nv_on, policy_or_on, policy_pcr_on, session_handle, start_session, with_session}
+use Rattle.tpm_model.specs.SessionCommands.{digest_on, flush_on, policy_authorize_nv_on, policy_or_on, policy_pcr_on, with_session}
 use Rattle.tpm_model.specs.ObjectCommands.{unseal_on}
-use Rattle.tpm_model.specs.Sessions.{fresh_session, is_session, is_session_hash, session_at, session_place}
+use Rattle.tpm_model.specs.Sessions.{is_session, session_at, session_place}
 use Rattle.tpm_broker.specs.declared.plan.Plan.{Plan}
 use Rattle.tpm_broker.specs.declared.plan.Plan.TheVariants as plan
 use Rattle.tpm_broker.specs.declared.rows.Handles.{Handles}
-use Rattle.tpm_broker.specs.Alone.{is_session_command, one_if_passed, respond_of_four, start_of_four, starts}
-use Rattle.tpm_broker.specs.Clients.{Client, client_at, changed, is_own, tpm_handle, with_started, without, without_all}
-use Rattle.tpm_broker.specs.Served.{Served, clients_after, clients_done, on_session, served, served_by, session_plan, settled, start_plan, told}
+use Rattle.tpm_broker.specs.Alone.{is_session_command}
+use Rattle.tpm_broker.specs.Clients.{Client, client_at, changed, is_own, tpm_handle, without}
+use Rattle.tpm_broker.specs.Served.{Served, clients_after, clients_done, on_session, served, served_by, session_plan, settled, told}
 use Rattle.tpm_broker.proofs.Firsts.{first_of, found_is, found_passes, with_is, with_of, without_is, without_of}
-use Rattle.tpm_broker.proofs.Held.{Found, held_found, held_length, held_missing, renamed}
-use Rattle.tpm_broker.proofs.Beside.{Beside, all_end, at_all, at_other, at_same, mine_becomes, mine_ends, mine_starts, other_becomes, other_ends, other_starts, room_for, rows_of}
-use Rattle.tpm_broker.proofs.Alike.{Becomes, Both, Ends, Misses, Stays, alike_digest, alike_flush, alike_nv, alike_or, alike_pcr, alike_unseal, alone_state, is_plain, with_sessions}
-use Rattle.tpm_broker.proofs.Plain.{Leaves, is_other, plain_content, plain_define, plain_evict, plain_extend, plain_public, plain_read, plain_restart, plain_seal, plain_undefine, plain_write, restarted}
+use Rattle.tpm_broker.proofs.Held.{held_found, held_missing, renamed}
+use Rattle.tpm_broker.proofs.Beside.{Beside, all_end, at_all, at_same, mine_becomes, mine_ends, rows_of}
+use Rattle.tpm_broker.proofs.Alike.{Becomes, Ends, Stays, alike_digest, alike_flush, alike_nv, alike_or, alike_pcr, alike_unseal, alone_state, with_sessions}
+use Rattle.tpm_broker.proofs.Plain.{plain_content, plain_define, plain_evict, plain_extend, plain_public, plain_read, plain_restart, plain_seal, plain_undefine, plain_write, restarted}
 use Rattle.tpm_broker.proofs.ToldPlain.{after_other, after_plain, told_other, told_plain}
 
 -- the number of client k's next session

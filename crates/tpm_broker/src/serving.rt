@@ -1,9 +1,11 @@
 //! Commands of clients that come one after the other.
-ghost use Rattle.std.specs.Prelude.{◌≡◌, ◌⊎◌, ℕ, ◌<◌, ◌≤◌, true, All, ◌∷◌, [], ◌++◌, length, take, Some, Err, IfOk, IfErr, IfSome};
+ghost use Rattle.std.specs.Prelude.{◌≡◌, ◌⊎◌, ℕ, ◌+◌, ◌*◌, ◌<◌, ◌≤◌, true, All, ◌∷◌, [], ◌++◌, length, replicate, take, Some, Err, IfOk, IfErr, IfSome};
 ghost use Rattle.pl_base.specs.Faults.{HasCause};
 ghost use Rattle.tpm_model.specs.declared.command.Command.{Command as Asked};
 ghost use Rattle.tpm_model.specs.declared.parts.Parts.{Parts};
 ghost use Rattle.tpm_model.specs.Rules.{HasRules};
+ghost use Rattle.tpm_broker.specs.Alone.{alone, at_places, sessions_started, without_sessions};
+ghost use Rattle.tpm_broker.specs.Clients.{new_client};
 ghost use Rattle.tpm_broker.specs.Lists.{answers_to, clients_left, state_left};
 ghost use Rattle.tpm_broker.specs.Served.{served, still_ready};
 
@@ -53,6 +55,10 @@ fn serve_next<T: Tpm>(
 
 /// Executes the commands in order, each of the client before it, and gives the answers.
 ///
+/// From a new broker each client is answered as if it were alone on a TPM that has room for four sessions,
+/// where the others' commands on sessions are left out, no session is open and none was started: where
+/// the TPM has room for four sessions more of each client, and numbers for all that are started.
+///
 /// # Errors
 ///
 /// Those of the device, and want of memory. The commands before were done, the one at which it stopped
@@ -72,6 +78,9 @@ pub fn serve<T: Tpm>(
     ensures stopped { (s : Parts) → T.live tpm.old ≡ Some s → IfErr result (λ stop.
         (n : ℕ) × (n ≤ length asked.now) × (broker.new ≡ clients_left (take n asked.now) broker.old s)
         × (stop ≡ ExecError.Memory → T.live tpm.new ≡ Some (state_left (take n asked.now) broker.old s))) }
+    ensures as_alone { (s : Parts) → T.live tpm.old ≡ Some s → HasRules s → broker.old ≡ replicate (length broker.old) new_client
+        → length s.sessions + 4 * length broker.old ≤ 64 → s.next_session + sessions_started asked.now broker.old s ≤ 0x01000000
+        → IfOk result (λ responses. (k : ℕ) → k < length broker.old → at_places k asked.now responses ≡ alone k asked.now (without_sessions s)) }
 {
     let mut responses = List::new(alloc);
     for one in asked {

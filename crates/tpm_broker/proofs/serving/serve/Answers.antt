@@ -1,6 +1,11 @@
-use Rattle.std.proofs.Common.{inl, inr, ◌+◌, ◌<◌, length, take, ap, ◌∙◌, arith}
+use Rattle.std.proofs.Common.{◌≡◌, ℕ, inl, inr, ◌+◌, ◌<◌, ◌≤◌, length, take, ap, ◌∙◌, subst, arith}
 use Rattle.std.specs.Prelude.{Some}
-use Rattle.tpm_broker.specs.Lists.{state_left}
+use Rattle.std.proofs.lemmas.List.{take_all}
+use Rattle.std.proofs.lemmas.List.Elements.{recursion_from_All}
+use Rattle.tpm_model.specs.declared.command.Command.{Command}
+use Rattle.tpm_broker.specs.Alone.{at_places, sessions_started}
+use Rattle.tpm_broker.specs.Lists.{answers_to, state_left}
+use Rattle.tpm_broker.proofs.AsAlone.{clients_alone}
 use Rattle.tpm_broker.proofs.InOrder.{answers_next, clients_next, state_next}
 use Rattle.tpm_broker.proofs.serving.serve.Goals as goal
 
@@ -37,3 +42,13 @@ loop-one-preserved g c =
             state = out.2 ∙ ap Some (state_next asked i c.one-item.result c.args.broker.now c.loop-one.broker s c.loop-one-test.true c.one-item.is so_far.clients_are);
           };
     }
+
+pub returns-clause-as_alone : goal.returns-clause-as_alone
+returns-clause-as_alone g c = λ s live rules new room limit k low.
+    let n = length c.args.broker.now in
+    let asked = c.args.asked.now in
+    let all = recursion_from_All (λ (one : ℕ × Command). one.0 < n) asked c.requires.clients in
+    let so_far = c.loop-one.invariant.told s live in
+    let every : take c.loop-one.one-index asked ≡ asked = take_all c.loop-one.one-index asked c.loop-one-test.false in
+    ap (at_places k asked) (so_far.answers ∙ ap (λ xs. answers_to xs c.args.broker.now s) every ∙ ap (λ cs. answers_to asked cs s) new)
+    ∙ clients_alone k n asked s rules low all room (subst (λ cs. s.next_session + sessions_started asked cs s ≤ 0x01000000) new limit)
