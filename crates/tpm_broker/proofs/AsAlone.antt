@@ -99,7 +99,7 @@ as_mine : (k n m : ℕ) (c : Command) (clients : List Client) (s : Parts) (ts : 
     → Matches k n (s.next_session + starts c (client_at m clients)) (served m c clients s) (respond_of_four c (alone_now k clients ts s))
 as_mine k n m c clients s ts h low same =
     subst (λ j. s.next_session + starts c (client_at j clients) ≤ 0x01000000
-        → Matches k n (s.next_session + starts c (client_at j clients)) (served j c clients s) (respond_of_four c (alone_now k clients ts s))) (sym same)
+    → Matches k n (s.next_session + starts c (client_at j clients)) (served j c clients s) (respond_of_four c (alone_now k clients ts s))) (sym same)
     (mine_step k n c clients s ts h low)
 
 -- the answers at client k's places, from a state in which its sessions are those that it would have alone
@@ -113,22 +113,22 @@ answered_alone k n (x ∷ xs) clients s ts h low all limit =
     let r = respond_of_four x.1 t in
     let step : s.next_session + starts x.1 (client_at x.0 clients) ≤ 0x01000000 = omega arith in
     let rest : (u : Parts) → Goes k n (s.next_session + starts x.1 (client_at x.0 clients)) out u → at_places k xs (answers_to xs out.clients out.state) ≡ alone k xs u =
-        λ u g. answered_alone k n xs out.clients out.state g.sessions g.beside low all.1 (omega (arith, g.number)) ∙ ap (alone k xs) (sym g.same) in
+    λ u g. answered_alone k n xs out.clients out.state g.sessions g.beside low all.1 (omega (arith, g.number)) ∙ ap (alone k xs) (sym g.same) in
     elim (eqb_tells x.0 k) [
       | inl mine ↦
-        let m = as_mine k n x.0 x.1 clients s ts h low mine.1 step in
-        ap (λ b. cond b (out.answer ∷ at_places k xs (answers_to xs out.clients out.state)) (at_places k xs (answers_to xs out.clients out.state))) mine.0
-        ∙ ap (λ a. a ∷ at_places k xs (answers_to xs out.clients out.state)) m.told
-        ∙ ap (λ rs. r.0 ∷ rs) (rest r.1 m.goes)
-        ∙ sym (ap (λ b. cond b (r.0 ∷ alone k xs r.1) (cond (is_session_command x.1) (alone k xs t) (alone k xs (respond x.1 t).1))) mine.0)
+          let m = as_mine k n x.0 x.1 clients s ts h low mine.1 step in
+          ap (λ b. cond b (out.answer ∷ at_places k xs (answers_to xs out.clients out.state)) (at_places k xs (answers_to xs out.clients out.state))) mine.0
+          ∙ ap (λ a. a ∷ at_places k xs (answers_to xs out.clients out.state)) m.told
+          ∙ ap (λ rs. r.0 ∷ rs) (rest r.1 m.goes)
+          ∙ sym (ap (λ b. cond b (r.0 ∷ alone k xs r.1) (cond (is_session_command x.1) (alone k xs t) (alone k xs (respond x.1 t).1))) mine.0)
       | inr other ↦
-        ap (λ b. cond b (out.answer ∷ at_places k xs (answers_to xs out.clients out.state)) (at_places k xs (answers_to xs out.clients out.state))) other.0
-        ∙ elim (is_session_command x.1) as (λ b. is_session_command x.1 ≡ b
-        → at_places k xs (answers_to xs out.clients out.state) ≡ cond b (alone k xs t) (alone k xs (respond x.1 t).1)) [
-          | true ↦ λ on. rest t (other_step k n x.0 x.1 clients s ts h all.0 other.1 step on)
-          | false ↦ λ off. rest (respond x.1 t).1 (off_sessions k n x.0 x.1 clients s ts h off)
-        ] refl
-        ∙ sym (ap (λ b. cond b (r.0 ∷ alone k xs r.1) (cond (is_session_command x.1) (alone k xs t) (alone k xs (respond x.1 t).1))) other.0)
+          ap (λ b. cond b (out.answer ∷ at_places k xs (answers_to xs out.clients out.state)) (at_places k xs (answers_to xs out.clients out.state))) other.0
+          ∙ elim (is_session_command x.1) as (λ b. is_session_command x.1 ≡ b
+          → at_places k xs (answers_to xs out.clients out.state) ≡ cond b (alone k xs t) (alone k xs (respond x.1 t).1)) [
+            | true ↦ λ on. rest t (other_step k n x.0 x.1 clients s ts h all.0 other.1 step on)
+            | false ↦ λ off. rest (respond x.1 t).1 (off_sessions k n x.0 x.1 clients s ts h off)
+          ] refl
+          ∙ sym (ap (λ b. cond b (r.0 ∷ alone k xs r.1) (cond (is_session_command x.1) (alone k xs t) (alone k xs (respond x.1 t).1))) other.0)
     ]
 
 -- from a new broker

@@ -60,7 +60,7 @@ row_without m i own clients a within is =
     elim (row_of m i (without own) clients a within is) [
       | inl was ↦ was
       | inr new ↦ subst (λ j. IsIn a (rows_of j clients)) (sym new.0)
-        (in_without (is_own own) a (rows_of m clients) (subst (IsIn a) (without_is (is_own own) (rows_of m clients)) new.1))
+          (in_without (is_own own) a (rows_of m clients) (subst (IsIn a) (without_is (is_own own) (rows_of m clients)) new.1))
     ]
 
 -- the TPM calls none of client k's sessions by a handle of another client's
@@ -107,7 +107,7 @@ room_ends m own a x clients ss within found theirs h =
     let mine : suc (length (without_of (is_own own) (rows_of m clients))) ≡ length (rows_of m clients) = length_without (is_own own) a (rows_of m clients) found in
     let same : length (without own (client_at m clients)).sessions ≡ length (without_of (is_own own) (rows_of m clients)) = ap length (without_is (is_own own) (rows_of m clients)) in
     let all : room_left (changed m (without own) clients) + (4 - length (rows_of m clients)) ≡ room_left clients + (4 - length (without own (client_at m clients)).sessions) =
-        room_set m (without own (client_at m clients)) clients within in
+    room_set m (without own (client_at m clients)) clients within in
     omega arith
 
 -- a session of client k ends
@@ -120,8 +120,8 @@ mine_ends k n own a x clients ss next ts h low found theirs =
       count = length-set clients k _ ∙ h.count;
       few = h.few;
       held = subst (λ (os : List Handles). AreHeld os (without_of (is_session a.tpm) ss) (without_of (is_session own) ts))
-        (sym (ap (λ (c : Client). c.sessions) (at_same k (without own) clients within) ∙ without_is (is_own own) (rows_of k clients)))
-        (held_ends own a (rows_of k clients) ss ts h.held found);
+          (sym (ap (λ (c : Client). c.sessions) (at_same k (without own) clients within) ∙ without_is (is_own own) (rows_of k clients)))
+          (held_ends own a (rows_of k clients) ss ts h.held found);
       apart = λ i b c ne is mine. h.apart i b c ne (row_without k i own clients b within is) (row_without k k own clients c within mine);
       below = λ i b is. h.below i b (row_without k i own clients b within is);
       lower = all_without (λ (y : Session). y.handle < session_handle next) (is_session a.tpm) ss h.lower;
@@ -139,7 +139,7 @@ other_ends k n m own a x clients ss next ts h low ne found theirs =
       count = length-set clients m _ ∙ h.count;
       few = h.few;
       held = subst (λ (c : Client). AreHeld c.sessions (without_of (is_session a.tpm) ss) ts) (sym (at_other m k (without own) clients (λ same. ne (sym same))))
-        (held_without a.tpm (rows_of k clients) ss ts h.held (none_of k n m clients ss next ts a h ne is));
+          (held_without a.tpm (rows_of k clients) ss ts h.held (none_of k n m clients ss next ts a h ne is));
       apart = λ i b c other one mine. h.apart i b c other (row_without m i own clients b within one) (row_without m k own clients c within mine);
       below = λ i b one. h.below i b (row_without m i own clients b within one);
       lower = all_without (λ (y : Session). y.handle < session_handle next) (is_session a.tpm) ss h.lower;
@@ -153,7 +153,7 @@ room_starts m tpm x clients ss within four h =
     let more : length (ss ++ x ∷ []) ≡ length ss + 1 = length_push ss x in
     let rows : length (with_started tpm (client_at m clients)).sessions ≡ length (rows_of m clients) + 1 = length_push (rows_of m clients) _ in
     let all : room_left (changed m (with_started tpm) clients) + (4 - length (rows_of m clients)) ≡ room_left clients + (4 - length (with_started tpm (client_at m clients)).sessions) =
-        room_set m (with_started tpm (client_at m clients)) clients within in
+    room_set m (with_started tpm (client_at m clients)) clients within in
     omega arith
 
 -- the TPM has room for a session where a client has
@@ -200,7 +200,7 @@ mine_starts k n x clients ss next ts h low four e =
       count = length-set clients k _ ∙ h.count;
       few = h.few;
       held = subst (λ (c : Client). AreHeld c.sessions (ss ++ renamed new x ∷ []) (ts ++ x ∷ [])) (sym (at_same k (with_started new) clients within))
-        (held_starts (session_handle (client_at k clients).had) new x (rows_of k clients) ss ts h.held e (all_from (λ (o : Handles). o.tpm < new) (rows_of k clients) (h.below k)) h.lower);
+          (held_starts (session_handle (client_at k clients).had) new x (rows_of k clients) ss ts h.held e (all_from (λ (o : Handles). o.tpm < new) (rows_of k clients) (h.below k)) h.lower);
       apart = λ i b c ne is mine. elim (row_started k i next clients b within is) [
         | inl was ↦ elim (row_started k k next clients c within mine) [
           | inl old ↦ h.apart i b c ne was old

@@ -106,7 +106,7 @@ held_missing own (o ∷ os) ss (x ∷ xs) h found =
     elim (o.own == own) as (λ b. (o.own == own) ≡ b → cond b (Some o) (first_of (is_own own) os) ≡ None → cond (x.handle == own) (Some x) (first_of (is_session own) xs) ≡ None) [
       | true ↦ λ is found. cc
       | false ↦ λ is more.
-        ap (λ m. cond (m == own) (Some x) (first_of (is_session own) xs)) h.0.own ∙ ap (λ b. cond b (Some x) (first_of (is_session own) xs)) is ∙ held_missing own os ss xs h.1 more
+          ap (λ m. cond (m == own) (Some x) (first_of (is_session own) xs)) h.0.own ∙ ap (λ b. cond b (Some x) (first_of (is_session own) xs)) is ∙ held_missing own os ss xs h.1 more
     ] refl found
 
 -- where the TPM keeps each of them, they are held
@@ -145,23 +145,27 @@ held_becomes own a y [] ss ts h found e = cc
 held_becomes own a y (o ∷ os) ss [] h found e = absurd h
 held_becomes own a y (o ∷ os) ss (x ∷ xs) h found e =
     elim (o.own == own) as (λ b. (o.own == own) ≡ b → cond b (Some o) (first_of (is_own own) os) ≡ Some a
-        → AreHeld (o ∷ os) (with_of (is_session a.tpm) (renamed a.tpm y) ss) (cond (x.handle == own) (y ∷ xs) (x ∷ with_of (is_session own) y xs))) [
+    → AreHeld (o ∷ os) (with_of (is_session a.tpm) (renamed a.tpm y) ss) (cond (x.handle == own) (y ∷ xs) (x ∷ with_of (is_session own) y xs))) [
       | true ↦ λ is found. let same : o ≡ a = cc in
-        subst (λ (c : Handles). AreHeld (o ∷ os) (with_of (is_session c.tpm) (renamed c.tpm y) ss) (cond (x.handle == own) (y ∷ xs) (x ∷ with_of (is_session own) y xs))) same
-        (subst (λ b. AreHeld (o ∷ os) (with_of (is_session o.tpm) (renamed o.tpm y) ss) (cond b (y ∷ xs) (x ∷ with_of (is_session own) y xs))) (sym (test_of own o x true h.0.own is))
-        (record {
-          own = e ∙ sym (eqb-true o.own own is);
-          tpm = same_with (is_session o.tpm) (renamed o.tpm x) (renamed o.tpm y) ss h.0.tpm (eq-eqb o.tpm o.tpm refl);
-          once = h.0.once;
-        }, held_beside o.tpm (renamed o.tpm y) os ss xs h.1 h.0.once refl))
+          subst (λ (c : Handles). AreHeld (o ∷ os) (with_of (is_session c.tpm) (renamed c.tpm y) ss) (cond (x.handle == own) (y ∷ xs) (x ∷ with_of (is_session own) y xs))) same
+          (subst (λ b. AreHeld (o ∷ os) (with_of (is_session o.tpm) (renamed o.tpm y) ss) (cond b (y ∷ xs) (x ∷ with_of (is_session own) y xs))) (sym (test_of own o x true h.0.own is)) (
+            record {
+              own = e ∙ sym (eqb-true o.own own is);
+              tpm = same_with (is_session o.tpm) (renamed o.tpm x) (renamed o.tpm y) ss h.0.tpm (eq-eqb o.tpm o.tpm refl);
+              once = h.0.once;
+            },
+            held_beside o.tpm (renamed o.tpm y) os ss xs h.1 h.0.once refl,
+          ))
       | false ↦ λ is more.
-        let apart : a.tpm ≢ o.tpm = all_in (λ (c : Handles). c.tpm ≢ o.tpm) a os h.0.once (found_in (is_own own) a os more) in
-        subst (λ b. AreHeld (o ∷ os) (with_of (is_session a.tpm) (renamed a.tpm y) ss) (cond b (y ∷ xs) (x ∷ with_of (is_session own) y xs))) (sym (test_of own o x false h.0.own is))
-        (record {
-          own = h.0.own;
-          tpm = other_with (is_session a.tpm) (is_session o.tpm) (renamed a.tpm y) ss (excludes a.tpm o.tpm apart) (ne_eqb a.tpm o.tpm apart) ∙ h.0.tpm;
-          once = h.0.once;
-        }, held_becomes own a y os ss xs h.1 more e)
+          let apart : a.tpm ≢ o.tpm = all_in (λ (c : Handles). c.tpm ≢ o.tpm) a os h.0.once (found_in (is_own own) a os more) in
+          subst (λ b. AreHeld (o ∷ os) (with_of (is_session a.tpm) (renamed a.tpm y) ss) (cond b (y ∷ xs) (x ∷ with_of (is_session own) y xs))) (sym (test_of own o x false h.0.own is)) (
+            record {
+              own = h.0.own;
+              tpm = other_with (is_session a.tpm) (is_session o.tpm) (renamed a.tpm y) ss (excludes a.tpm o.tpm apart) (ne_eqb a.tpm o.tpm apart) ∙ h.0.tpm;
+              once = h.0.once;
+            },
+            held_becomes own a y os ss xs h.1 more e,
+          )
     ] refl found
 
 -- where one of them ends
@@ -171,19 +175,21 @@ held_ends own a [] ss ts h found = cc
 held_ends own a (o ∷ os) ss [] h found = absurd h
 held_ends own a (o ∷ os) ss (x ∷ xs) h found =
     elim (o.own == own) as (λ b. (o.own == own) ≡ b → cond b (Some o) (first_of (is_own own) os) ≡ Some a
-        → AreHeld (cond b os (o ∷ without_of (is_own own) os)) (without_of (is_session a.tpm) ss) (cond (x.handle == own) xs (x ∷ without_of (is_session own) xs))) [
+    → AreHeld (cond b os (o ∷ without_of (is_own own) os)) (without_of (is_session a.tpm) ss) (cond (x.handle == own) xs (x ∷ without_of (is_session own) xs))) [
       | true ↦ λ is found. let same : o ≡ a = cc in
-        subst (λ (c : Handles). AreHeld os (without_of (is_session c.tpm) ss) (cond (x.handle == own) xs (x ∷ without_of (is_session own) xs))) same
-        (subst (λ b. AreHeld os (without_of (is_session o.tpm) ss) (cond b xs (x ∷ without_of (is_session own) xs))) (sym (test_of own o x true h.0.own is))
-        (held_without o.tpm os ss xs h.1 h.0.once))
+          subst (λ (c : Handles). AreHeld os (without_of (is_session c.tpm) ss) (cond (x.handle == own) xs (x ∷ without_of (is_session own) xs))) same
+          (subst (λ b. AreHeld os (without_of (is_session o.tpm) ss) (cond b xs (x ∷ without_of (is_session own) xs))) (sym (test_of own o x true h.0.own is))
+          (held_without o.tpm os ss xs h.1 h.0.once))
       | false ↦ λ is more.
-        let apart : a.tpm ≢ o.tpm = all_in (λ (c : Handles). c.tpm ≢ o.tpm) a os h.0.once (found_in (is_own own) a os more) in
-        subst (λ b. AreHeld (o ∷ without_of (is_own own) os) (without_of (is_session a.tpm) ss) (cond b xs (x ∷ without_of (is_session own) xs))) (sym (test_of own o x false h.0.own is))
-        (record {
-          own = h.0.own;
-          tpm = other_without (is_session a.tpm) (is_session o.tpm) ss (excludes a.tpm o.tpm apart) ∙ h.0.tpm;
-          once = all_without (λ (c : Handles). c.tpm ≢ o.tpm) (is_own own) os h.0.once;
-        }, held_ends own a os ss xs h.1 more)
+          let apart : a.tpm ≢ o.tpm = all_in (λ (c : Handles). c.tpm ≢ o.tpm) a os h.0.once (found_in (is_own own) a os more) in
+          subst (λ b. AreHeld (o ∷ without_of (is_own own) os) (without_of (is_session a.tpm) ss) (cond b xs (x ∷ without_of (is_session own) xs))) (sym (test_of own o x false h.0.own is)) (
+            record {
+              own = h.0.own;
+              tpm = other_without (is_session a.tpm) (is_session o.tpm) ss (excludes a.tpm o.tpm apart) ∙ h.0.tpm;
+              once = all_without (λ (c : Handles). c.tpm ≢ o.tpm) (is_own own) os h.0.once;
+            },
+            held_ends own a os ss xs h.1 more,
+          )
     ] refl found
 
 not_yet : (new : ℕ) (ss : List Session) → AllByRecursion (λ (x : Session). x.handle < new) ss → AllByRecursion (λ (x : Session). is_session new x ≡ false) ss
@@ -202,9 +208,11 @@ held_starts own new x [] ss [] h e below lower =
     (record { own = e; tpm = found_last (is_session new) (renamed new x) ss (not_yet new ss lower) (eq-eqb new new refl); once = tt }, tt)
 held_starts own new x [] ss (z ∷ zs) h e below lower = absurd h
 held_starts own new x (o ∷ os) ss [] h e below lower = absurd h
-held_starts own new x (o ∷ os) ss (z ∷ zs) h e below lower =
-    (record {
-      own = h.0.own;
-      tpm = found_push (is_session o.tpm) (renamed o.tpm z) (renamed new x) ss h.0.tpm;
-      once = none_push o.tpm own new os h.0.once below.0;
-    }, held_starts own new x os ss zs h.1 e below.1 lower)
+held_starts own new x (o ∷ os) ss (z ∷ zs) h e below lower = (
+  record {
+    own = h.0.own;
+    tpm = found_push (is_session o.tpm) (renamed o.tpm z) (renamed new x) ss h.0.tpm;
+    once = none_push o.tpm own new os h.0.once below.0;
+  },
+  held_starts own new x os ss zs h.1 e below.1 lower,
+)

@@ -64,7 +64,7 @@ other_changes k n m own a o c clients s ts us next h ne found done = λ x e y sa
     (record {
       sessions = ts;
       beside = subst (λ vs. Beside k n clients vs s.next_session ts) (sym (with_is (is_session a.tpm) (renamed a.tpm y) s.sessions))
-        (other_becomes k n m own a (renamed a.tpm y) clients s.sessions s.next_session ts h ne found refl);
+          (other_becomes k n m own a (renamed a.tpm y) clients s.sessions s.next_session ts h ne found refl);
       same = refl;
       number = omega arith;
     })
@@ -78,7 +78,7 @@ other_gone k n m own a clients s ts us next h low ne found = λ x e.
     record {
       sessions = ts;
       beside = subst (λ vs. Beside k n after vs s.next_session ts) (sym (without_is (is_session a.tpm) s.sessions))
-        (other_ends k n m own a x clients s.sessions s.next_session ts h low ne found (sym (found_is (is_session a.tpm) s.sessions) ∙ e));
+          (other_ends k n m own a x clients s.sessions s.next_session ts h low ne found (sym (found_is (is_session a.tpm) s.sessions) ∙ e));
       same = ap (λ (d : Client). alone_state d.had ts s) (sym (at_other m k (without own) clients (λ is. ne (sym is))));
       number = omega arith;
     }

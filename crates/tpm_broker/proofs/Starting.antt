@@ -59,12 +59,12 @@ same_refusal k n limit why clients s ts r h low e =
 pub mine_start : (k n : ℕ) (hash : Bank) (clients : List Client) (s : Parts) (ts : List Session) → Beside k n clients s.sessions s.next_session ts → k < n
     → s.next_session + one_if_passed (start_plan hash (client_at k clients)) ≤ 0x01000000
     → Matches k n (s.next_session + one_if_passed (start_plan hash (client_at k clients))) (served_by (start_plan hash (client_at k clients)) k (command.StartSession hash) clients s)
-        (start_of_four hash (alone_now k clients ts s))
+    (start_of_four hash (alone_now k clients ts s))
 mine_start k n hash clients s ts h low limit =
     let client = client_at k clients in
     let t = alone_now k clients ts s in
     let P : Plan → Type 0 = λ p. s.next_session + one_if_passed p ≤ 0x01000000
-        → Matches k n (s.next_session + one_if_passed p) (served_by p k (command.StartSession hash) clients s) (start_of_four hash t) in
+    → Matches k n (s.next_session + one_if_passed p) (served_by p k (command.StartSession hash) clients s) (start_of_four hash t) in
     let as_many : length ts ≡ length client.sessions = held_length (rows_of k clients) s.sessions ts h.held in
     cond_both (not (is_session_hash hash)) _ _ P
     (λ wrong _. same_refusal k n (s.next_session + 0) (answer.Refused refusal.Value) clients s ts _ h (omega arith) (wrong_hash hash t wrong)) (λ right.
@@ -97,14 +97,14 @@ mine_start k n hash clients s ts h low limit =
 pub other_start : (k n m : ℕ) (hash : Bank) (clients : List Client) (s : Parts) (ts : List Session) → Beside k n clients s.sessions s.next_session ts → m < n → m ≢ k
     → s.next_session + one_if_passed (start_plan hash (client_at m clients)) ≤ 0x01000000
     → Goes k n (s.next_session + one_if_passed (start_plan hash (client_at m clients))) (served_by (start_plan hash (client_at m clients)) m (command.StartSession hash) clients s)
-        (alone_now k clients ts s)
+    (alone_now k clients ts s)
 other_start k n m hash clients s ts h low ne limit =
     let client = client_at m clients in
     let t = alone_now k clients ts s in
     let P : Plan → Type 0 = λ p. s.next_session + one_if_passed p ≤ 0x01000000
-        → Goes k n (s.next_session + one_if_passed p) (served_by p m (command.StartSession hash) clients s) t in
+    → Goes k n (s.next_session + one_if_passed p) (served_by p m (command.StartSession hash) clients s) t in
     let stays : (why : Response) → Goes k n (s.next_session + 0) (served_with why clients s) t =
-        λ why. goes_up k n s.next_session (s.next_session + 0) (served_with why clients s) t (omega arith) (goes_on k n why clients s s ts h refl refl) in
+    λ why. goes_up k n s.next_session (s.next_session + 0) (served_with why clients s) t (omega arith) (goes_on k n why clients s s ts h refl refl) in
     cond_both (not (is_session_hash hash)) _ _ P (λ wrong _. stays (answer.Refused refusal.Value)) (λ right.
     cond_both (nat_le 4 (length client.sessions)) _ _ P (λ four _. stays (answer.Refused refusal.SessionsFull)) (λ few.
     cond_both (nat_le 0x01000000 client.had) _ _ P (λ all _. stays (answer.Refused refusal.HandlesEnd)) (λ numbers ok.

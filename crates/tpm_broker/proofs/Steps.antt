@@ -75,7 +75,7 @@ leaves_step : (k n m : ℕ) (c : Command) (clients : List Client) (s u : Parts) 
 leaves_step k n m c clients s u ts r h same after e f = record {
   told = same;
   goes = subst (λ cs. Goes k n s.next_session (served_with (told c (client_at m clients) r) cs u) (alone_now k clients ts u)) (sym after)
-    (goes_on k n (told c (client_at m clients) r) clients s u ts h e f);
+      (goes_on k n (told c (client_at m clients) r) clients s u ts h e f);
 }
 
 -- a command that isn't on sessions, of any client
@@ -190,13 +190,13 @@ becomes_mine k n own a x c clients s ts h found named done = λ z e y same.
     record {
       told = refl;
       goes = subst (λ cs. Goes k n s.next_session (served_with answer.Done cs (with_sessions ss s)) (alone_state (had_of k clients) us s)) (sym done)
-        (record {
-          sessions = us;
-          beside = subst (λ vs. Beside k n clients vs s.next_session us) (sym (with_is (is_session a.tpm) (renamed a.tpm y) s.sessions))
-            (subst (λ vs. Beside k n clients (with_of (is_session a.tpm) (renamed a.tpm y) s.sessions) s.next_session vs) (sym (with_is (is_session own) y ts)) (mine_becomes k n own a y clients s.sessions s.next_session ts h found its));
-          same = refl;
-          number = omega arith;
-        });
+          (record {
+            sessions = us;
+            beside = subst (λ vs. Beside k n clients vs s.next_session us) (sym (with_is (is_session a.tpm) (renamed a.tpm y) s.sessions))
+                (subst (λ vs. Beside k n clients (with_of (is_session a.tpm) (renamed a.tpm y) s.sessions) s.next_session vs) (sym (with_is (is_session own) y ts)) (mine_becomes k n own a y clients s.sessions s.next_session ts h found its));
+            same = refl;
+            number = omega arith;
+          });
     }
 
 ends_mine : (k n own : ℕ) (a : Handles) (x : Session) (clients : List Client) (s : Parts) (ts : List Session) → Beside k n clients s.sessions s.next_session ts → k < n
@@ -212,7 +212,7 @@ ends_mine k n own a x clients s ts h low found theirs = λ z e.
       goes = record {
         sessions = us;
         beside = subst (λ vs. Beside k n after vs s.next_session us) (sym (without_is (is_session a.tpm) s.sessions))
-          (subst (λ vs. Beside k n after (without_of (is_session a.tpm) s.sessions) s.next_session vs) (sym (without_is (is_session own) ts)) (mine_ends k n own a (renamed a.tpm x) clients s.sessions s.next_session ts h low found theirs));
+            (subst (λ vs. Beside k n after (without_of (is_session a.tpm) s.sessions) s.next_session vs) (sym (without_is (is_session own) ts)) (mine_ends k n own a (renamed a.tpm x) clients s.sessions s.next_session ts h low found theirs));
         same = ap (λ (d : Client). alone_state d.had us (with_sessions ss s)) (sym (at_same k (without own) clients within));
         number = omega arith;
       };

@@ -157,7 +157,9 @@ impl Broker {
         requires client { client < length self.old }
         requires readiness { T.ready tpm.old ≡ true }
         requires room { (answer : Answer) → fits passed.now answer ≡ true → HasRoomFor answer (client_at client self.old) }
+        requires fitting { (answer : Answer) → fits passed.now answer ≡ true → fits command.now (told_of command.now (client_at client self.old) answer) ≡ true }
         ensures cause { HasCause (T.faults tpm.old) (T.faults tpm.new) (result ≡ Err ExecError.Failed) }
+        ensures fitting { IfOk result (λ answer. fits command.now answer ≡ true) }
         ensures readiness { T.ready tpm.new ≡ still_ready result }
         ensures count { length self.new ≡ length self.old }
         ensures stopped { OnErr result (self.new ≡ self.old) }
@@ -193,6 +195,7 @@ impl Broker {
         requires client { client < length self.old }
         requires readiness { T.ready tpm.old ≡ true }
         ensures cause { HasCause (T.faults tpm.old) (T.faults tpm.new) (result ≡ Err ExecError.Failed) }
+        ensures fitting { IfOk result (λ answer. fits command.now answer ≡ true) }
         ensures readiness { T.ready tpm.new ≡ still_ready result }
         ensures alone { AnswersItself (own_answer (plan_of command.now (client_at client self.old))) result (self.new ≡ self.old) (tpm.new ≡ tpm.old) }
         ensures count { length self.new ≡ length self.old }
