@@ -1,4 +1,4 @@
-pub mod Ended
+pub mod ClientRows
 pub mod Flushes
 pub mod Passing
 pub mod InOrder

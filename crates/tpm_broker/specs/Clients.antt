@@ -1,7 +1,8 @@
 -- What the broker keeps of its clients.
-use Rattle.std.specs.Prelude.{ℕ, ◌+◌, ◌<◌, ◌==◌, Bool, List, [], ◌∷◌, ◌++◌, drop, length, get_or, remove, slice_set, find, Option}
+use Rattle.std.specs.Prelude.{◌≡◌, ℕ, ◌+◌, ◌<◌, ◌≤◌, ◌==◌, Bool, true, List, [], ◌∷◌, ◌++◌, drop, length, get_or, map, remove, slice_set, find, Option}
 use Rattle.std.specs.List.{position_or_len}
 use Rattle.std.specs.Option.{option_map}
+use Rattle.nv_index.specs.Handles.{are_handles}
 use Rattle.tpm_model.specs.declared.response.Response.{Response}
 use Rattle.tpm_model.specs.declared.response.Response.TheVariants as answer
 use Rattle.tpm_model.specs.SessionCommands.{session_handle}
@@ -24,6 +25,13 @@ is_own own handles = handles.own == own
 -- the TPM's handle of the session that the client calls by this one
 abbrev pub tpm_handle : ℕ → Client → Option ℕ
 tpm_handle own client = option_map (λ (handles : Handles). handles.tpm) (find (is_own own) client.sessions)
+
+-- what is kept of each client: it has had at most 16,777,216 sessions, and at most four are open, whose
+-- handles ascend, from that of number 0 to below that of its next
+pub record IsClient (client : Client) : Type 0 where
+  pub few : length client.sessions ≤ 4
+  pub numbers : client.had ≤ 0x01000000
+  pub order : are_handles 0x03000000 (session_handle client.had) (map (λ (handles : Handles). handles.own) client.sessions) ≡ true
 
 -- a client may start a session: fewer than four are open, and it has had fewer than 16,777,216
 pub record HasRoom (client : Client) : Type 0 where

@@ -7,7 +7,7 @@ ghost use Rattle.tpm_model.specs.Fits.{fits};
 ghost use Rattle.tpm_model.specs.Respond.{respond};
 ghost use Rattle.tpm_model.specs.Rules.{HasRules};
 ghost use Rattle.tpm_device.specs.Stored.{Holds};
-ghost use Rattle.tpm_broker.specs.Clients.{HasRoomFor, changed, client_at, new_client, without_all, without_first};
+ghost use Rattle.tpm_broker.specs.Clients.{HasRoomFor, IsClient, changed, client_at, new_client, without_all, without_first};
 ghost use Rattle.tpm_broker.specs.Leaving.{LeaveGives};
 ghost use Rattle.tpm_broker.specs.Served.{AnswersItself, ServeGives, ServeStores, clients_after, clients_done, plan_of, own_answer, served, settled, still_ready, told as told_of};
 
@@ -119,7 +119,7 @@ impl Broker {
     pub fn sessions(&self, client: u32) -> u32
         requires { client < length self.now }
         ensures value { result ≡ length (client_at client self.now).sessions }
-        ensures bound { result ≤ 4 }
+        ensures kept { IsClient (client_at client self.now) }
     {
         self.rows[client as usize].count() as u32
     }

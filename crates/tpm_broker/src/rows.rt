@@ -2,7 +2,7 @@
 ghost use Rattle.std.specs.Prelude.{◌≡◌, ◌<◌, ◌≤◌, length, find, position, slice_get, IfOk};
 ghost use Rattle.std.specs.Option.{option_map};
 ghost use Rattle.tpm_model.specs.SessionCommands.{session_handle};
-ghost use Rattle.tpm_broker.specs.Clients.{HasRoom, is_own, new_client, tpm_handle as tpm_handle_of, with_started, without, without_all, without_first};
+ghost use Rattle.tpm_broker.specs.Clients.{HasRoom, IsClient, is_own, new_client, tpm_handle as tpm_handle_of, with_started, without, without_all, without_first};
 ghost use Rattle.tpm_broker.specs.declared.rows.Handles.{Handles as Both};
 
 use pl_base::Memory;
@@ -27,14 +27,14 @@ pub(crate) struct Rows {
 
 impl Model for Rows {
     ghost use Rattle.std.specs.Prelude.{◌≤◌};
-    ghost use Rattle.std.specs.Vec.{vec_capacity, vec_len};
-    ghost use Rattle.tpm_broker.specs.Clients.{Client};
+    ghost use Rattle.std.specs.Vec.{vec_capacity};
+    ghost use Rattle.tpm_broker.specs.Clients.{Client, IsClient};
 
     ghost Value = { Client };
 
     ghost view = { λ a. record { had = a.had; sessions = a.sessions.items } };
 
-    ghost invariant = { λ a. (a.had ≤ 0x01000000) × (vec_len a.sessions ≤ 4) × (4 ≤ vec_capacity a.sessions) };
+    ghost invariant = { λ a. IsClient (record { had = a.had; sessions = a.sessions.items }) × (4 ≤ vec_capacity a.sessions) };
 }
 
 /// The most open sessions of a client.
@@ -74,7 +74,7 @@ impl Rows {
     /// How many are open.
     pub(crate) fn count(&self) -> usize
         ensures value { result ≡ length self.now.sessions }
-        ensures bound { result ≤ 4 }
+        ensures kept { IsClient self.now }
     {
         self.sessions.len()
     }

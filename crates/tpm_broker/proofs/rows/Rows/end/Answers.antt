@@ -1,6 +1,9 @@
-use Rattle.std.proofs.Common.{sym, ◌∙◌}
-use Rattle.tpm_broker.proofs.Ended.{ended, unchanged}
+use Rattle.std.proofs.Common.{rules, sym, ◌∙◌}
+use Rattle.tpm_broker.proofs.ClientRows.{ended, kept_ended, unchanged}
 use Rattle.tpm_broker.proofs.rows.Rows.end.Goals as goal
+
+pub invariant_of-self : goal.invariant_of-self
+invariant_of-self c = (kept_ended c.self.inside.had c.in-Some.place c.self.inside.sessions.items c.remove-ended.new.self.items c.self.invariant.0 (search rules) c.remove-ended.ensures.items, search rules)
 
 pub returns-in-Some : goal.returns-in-Some
 returns-in-Some c =
