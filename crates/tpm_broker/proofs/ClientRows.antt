@@ -41,8 +41,8 @@ kept_started had tpm xs ys kept few low e =
       few = omega arith;
       numbers = omega arith;
       order = subst (λ n. are_handles 0x03000000 n (map (λ (h : Handles). h.own) (xs ++ new ∷ [])) ≡ true) end
-        (subst (λ (os : List ℕ). are_handles 0x03000000 (session_handle had + 1) os ≡ true) (sym (map_push (λ (h : Handles). h.own) xs new))
-        (handles_push 0x03000000 (session_handle had) (map (λ (h : Handles). h.own) xs) (omega arith) kept.order));
+          (subst (λ (os : List ℕ). are_handles 0x03000000 (session_handle had + 1) os ≡ true) (sym (map_push (λ (h : Handles). h.own) xs new))
+          (handles_push 0x03000000 (session_handle had) (map (λ (h : Handles). h.own) xs) (omega arith) kept.order));
     })
 
 pub kept_ended : (had place : ℕ) (xs ys : List Handles) → IsClient (client_of had xs) → place < length xs → ys ≡ remove xs place → IsClient (client_of had ys)
@@ -53,5 +53,5 @@ kept_ended had place xs ys kept within e =
       few = omega arith;
       numbers = kept.numbers;
       order = subst (λ (os : List ℕ). are_handles 0x03000000 (session_handle had) os ≡ true) (sym (map-remove (λ (h : Handles). h.own) xs place))
-        (handles_remove 0x03000000 (session_handle had) (map (λ (h : Handles). h.own) xs) place kept.order);
+          (handles_remove 0x03000000 (session_handle had) (map (λ (h : Handles). h.own) xs) place kept.order);
     })

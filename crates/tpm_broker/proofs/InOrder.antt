@@ -1,15 +1,16 @@
 -- One more command at the end of a list.
-use Rattle.std.proofs.Common.{◌≡◌, ℕ, ◌+◌, ◌<◌, List, [], ◌∷◌, ◌++◌, length, get_or, take, refl, sym, ap, ◌∙◌}
+use Rattle.std.proofs.Common.{◌≡◌, ◌⊎◌, inl, ℕ, ◌+◌, ◌<◌, List, [], ◌∷◌, ◌++◌, length, get_or, take, refl, sym, ap, ◌∙◌}
 use Rattle.std.specs.Prelude.{Option, Some, Err}
 use Rattle.std.proofs.lemmas.List.{take_more}
 use Rattle.tpm_model.specs.declared.command.Command.{Command}
 use Rattle.tpm_model.specs.declared.parts.Parts.{Parts}
 use Rattle.tpm_model.specs.declared.response.Response.{Response}
+use Rattle.tpm_device.specs.Stored.{Stored, Holds}
 use Rattle.tpm_device.specs.declared.device.ExecError.{ExecError}
 use Rattle.tpm_device.specs.declared.device.ExecError.TheVariants.{Failed, Memory}
 use Rattle.tpm_broker.specs.Clients.{Client}
 use Rattle.tpm_broker.specs.Lists.{answers_to, clients_left, state_left}
-use Rattle.tpm_broker.specs.Served.{Served, ServeGives, served}
+use Rattle.tpm_broker.specs.Served.{Served, ServeGives, ServeStores, served}
 
 pub memory_leaves : (out : Served) (s : Parts) (stop : ExecError) (clients : List Client) (live : Option Parts) → ServeGives out s (Err stop) clients live → stop ≡ Memory → live ≡ Some s
 memory_leaves out s Failed clients live h e = cc
@@ -61,3 +62,7 @@ answers_next asked i one before clients s responses within is e f =
     ap (λ rs. rs ++ (served one.0 one.1 clients (state_left (take i asked) before s)).answer ∷ []) f
     ∙ ap (λ cs. answers_to (take i asked) before s ++ (served one.0 one.1 cs (state_left (take i asked) before s)).answer ∷ []) e
     ∙ sym (ap (λ xs. answers_to xs before s) (next asked i one within is) ∙ answers_push (take i asked) one before s)
+
+pub either_stored : (out : Served) (s : Parts) (stop : ExecError) (stored : Option Stored) → ServeStores out s (Err stop) stored → (stored ≡ Some (Holds s)) ⊎ (stored ≡ Some (Holds out.state))
+either_stored out s Failed stored h = h
+either_stored out s Memory stored h = inl h

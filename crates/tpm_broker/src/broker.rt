@@ -8,7 +8,7 @@ ghost use Rattle.tpm_model.specs.Respond.{respond};
 ghost use Rattle.tpm_model.specs.Rules.{HasRules};
 ghost use Rattle.tpm_device.specs.Stored.{Holds};
 ghost use Rattle.tpm_broker.specs.Clients.{HasRoomFor, IsClient, changed, client_at, new_client, without_all, without_first};
-ghost use Rattle.tpm_broker.specs.Leaving.{LeaveGives};
+ghost use Rattle.tpm_broker.specs.Leaving.{LeaveGives, LeaveStores};
 ghost use Rattle.tpm_broker.specs.Served.{AnswersItself, ServeGives, ServeStores, clients_after, clients_done, plan_of, own_answer, served, settled, still_ready, told as told_of};
 
 use crate::commands::{on_session, told};
@@ -238,6 +238,9 @@ impl Broker {
         ensures told { let sessions = (client_at client self.old).sessions in
             (n : ℕ) × (n ≤ length sessions) × (self.new ≡ changed client (without_first n) self.old)
             × ((s : Parts) → T.live tpm.old ≡ Some s → LeaveGives sessions n s result (T.live tpm.new)) }
+        ensures rules { (s : Parts) → T.live tpm.old ≡ Some s → HasRules s → IfSome (T.live tpm.new) HasRules }
+        ensures stored { (s : Parts) → T.live tpm.old ≡ Some s → T.stored tpm.old ≡ Some (Holds s) → LeaveStores (client_at client self.old).sessions s result (T.stored tpm.new) }
+        ensures clients { length self.new ≡ length self.old }
     {
         flush_all(alloc, &mut self.rows[client as usize], tpm)
     }

@@ -1,9 +1,11 @@
 //! The end of a client's sessions.
-ghost use Rattle.std.specs.Prelude.{◌≡◌, ℕ, ◌<◌, ◌≤◌, true, length, slice_get, Some, Err, IfOk, OnOk, OnErr};
+ghost use Rattle.std.specs.Prelude.{◌≡◌, ℕ, ◌<◌, ◌≤◌, true, length, slice_get, Some, Err, IfOk, IfSome, OnOk, OnErr};
 ghost use Rattle.pl_base.specs.Faults.{HasCause};
 ghost use Rattle.tpm_model.specs.declared.parts.Parts.{Parts};
+ghost use Rattle.tpm_model.specs.Rules.{HasRules};
+ghost use Rattle.tpm_device.specs.Stored.{Holds};
 ghost use Rattle.tpm_broker.specs.Clients.{without_all, without_first};
-ghost use Rattle.tpm_broker.specs.Leaving.{LeaveGives, FlushGives};
+ghost use Rattle.tpm_broker.specs.Leaving.{FlushGives, FlushStores, LeaveGives, LeaveStores};
 ghost use Rattle.tpm_broker.specs.Served.{still_ready};
 
 use crate::rows::Rows;
@@ -20,6 +22,8 @@ fn flush_first<T: Tpm>(alloc: Global, rows: &mut Rows, tpm: &mut T) -> Result<()
     ensures left { OnOk result (rows.new ≡ without_first 1 rows.old) }
     ensures stopped { OnErr result (rows.new ≡ rows.old) }
     ensures told { (s : Parts) → T.live tpm.old ≡ Some s → FlushGives (slice_get rows.old.sessions 0) s result (T.live tpm.new) }
+    ensures rules { (s : Parts) → T.live tpm.old ≡ Some s → HasRules s → IfSome (T.live tpm.new) HasRules }
+    ensures stored { (s : Parts) → T.live tpm.old ≡ Some s → T.stored tpm.old ≡ Some (Holds s) → FlushStores (slice_get rows.old.sessions 0) s result (T.stored tpm.new) }
 {
     let Some(session) = rows.first() else {
         unreachable!()
@@ -46,6 +50,8 @@ pub(crate) fn flush_all<T: Tpm>(
     ensures left { OnOk result (rows.new ≡ without_all rows.old) }
     ensures told { (n : ℕ) × (n ≤ length rows.old.sessions) × (rows.new ≡ without_first n rows.old)
         × ((s : Parts) → T.live tpm.old ≡ Some s → LeaveGives rows.old.sessions n s result (T.live tpm.new)) }
+    ensures rules { (s : Parts) → T.live tpm.old ≡ Some s → HasRules s → IfSome (T.live tpm.new) HasRules }
+    ensures stored { (s : Parts) → T.live tpm.old ≡ Some s → T.stored tpm.old ≡ Some (Holds s) → LeaveStores rows.old.sessions s result (T.stored tpm.new) }
 {
     let count = rows.count();
     for _ in 0..count {

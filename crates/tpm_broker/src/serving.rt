@@ -1,12 +1,13 @@
 //! Commands of clients that come one after the other.
-ghost use Rattle.std.specs.Prelude.{◌≡◌, ◌⊎◌, ℕ, ◌+◌, ◌*◌, ◌<◌, ◌≤◌, true, All, ◌∷◌, [], ◌++◌, length, replicate, take, Some, Err, IfOk, IfErr, IfSome};
+ghost use Rattle.std.specs.Prelude.{◌≡◌, ◌⊎◌, ℕ, ◌+◌, ◌*◌, ◌<◌, ◌≤◌, true, All, ◌∷◌, [], ◌++◌, length, replicate, take, Some, Err, IfOk, IfErr, IfSome, MatchResult};
 ghost use Rattle.pl_base.specs.Faults.{HasCause};
 ghost use Rattle.tpm_model.specs.declared.command.Command.{Command as Asked};
 ghost use Rattle.tpm_model.specs.declared.parts.Parts.{Parts};
 ghost use Rattle.tpm_model.specs.Rules.{HasRules};
+ghost use Rattle.tpm_device.specs.Stored.{Holds};
 ghost use Rattle.tpm_broker.specs.Alone.{alone, at_places, sessions_started, without_sessions};
 ghost use Rattle.tpm_broker.specs.Clients.{new_client};
-ghost use Rattle.tpm_broker.specs.Lists.{answers_to, clients_left, state_left};
+ghost use Rattle.tpm_broker.specs.Lists.{ListStores, answers_to, clients_left, state_left};
 ghost use Rattle.tpm_broker.specs.Served.{served, still_ready};
 
 use crate::Broker;
@@ -43,6 +44,8 @@ fn serve_next<T: Tpm>(
     ensures stopped { (s : Parts) → T.live tpm.old ≡ Some s → IfErr result (λ stop. let out = served asked.now.0 asked.now.1 broker.old s in
         ((broker.new ≡ broker.old) × (stop ≡ ExecError.Memory → T.live tpm.new ≡ Some s)) ⊎ ((broker.new ≡ out.clients) × (T.live tpm.new ≡ Some out.state))) }
     ensures rules { (s : Parts) → T.live tpm.old ≡ Some s → HasRules s → IfSome (T.live tpm.new) HasRules }
+    ensures stored { (s : Parts) → T.live tpm.old ≡ Some s → T.stored tpm.old ≡ Some (Holds s) → let out = served asked.now.0 asked.now.1 broker.old s in
+        MatchResult result (λ _. T.stored tpm.new ≡ Some (Holds out.state)) (λ _. (T.stored tpm.new ≡ Some (Holds s)) ⊎ (T.stored tpm.new ≡ Some (Holds out.state))) }
 {
     match broker.execute(alloc, asked.0, &asked.1, tpm) {
         Ok(response) => match push_answer(responses, &response) {
@@ -78,6 +81,9 @@ pub fn serve<T: Tpm>(
     ensures stopped { (s : Parts) → T.live tpm.old ≡ Some s → IfErr result (λ stop.
         (n : ℕ) × (n ≤ length asked.now) × (broker.new ≡ clients_left (take n asked.now) broker.old s)
         × (stop ≡ ExecError.Memory → T.live tpm.new ≡ Some (state_left (take n asked.now) broker.old s))) }
+    ensures rules { (s : Parts) → T.live tpm.old ≡ Some s → HasRules s → IfSome (T.live tpm.new) HasRules }
+    ensures stored { (s : Parts) → T.live tpm.old ≡ Some s → T.stored tpm.old ≡ Some (Holds s) → ListStores asked.now broker.old s result (T.stored tpm.new) }
+    ensures count { length broker.new ≡ length broker.old }
     ensures as_alone { (s : Parts) → T.live tpm.old ≡ Some s → HasRules s → broker.old ≡ replicate (length broker.old) new_client
         → length s.sessions + 4 * length broker.old ≤ 64 → s.next_session + sessions_started asked.now broker.old s ≤ 0x01000000
         → IfOk result (λ responses. (k : ℕ) → k < length broker.old → at_places k asked.now responses ≡ alone k asked.now (without_sessions s)) }
