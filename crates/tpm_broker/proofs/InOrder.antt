@@ -55,13 +55,23 @@ state_next asked i one before clients s within is e =
     ap (λ cs. (served one.0 one.1 cs (state_left (take i asked) before s)).state) e
     ∙ sym (ap (λ xs. state_left xs before s) (next asked i one within is) ∙ state_push (take i asked) one before s)
 
-pub answers_next : (asked : List (ℕ × Command)) (i : ℕ) (one : ℕ × Command) (before clients : List Client) (s : Parts) (responses : List Response) → i < length asked → one ≡ get_or asked i one
+answers_next : (asked : List (ℕ × Command)) (i : ℕ) (one : ℕ × Command) (before clients : List Client) (s : Parts) (responses : List Response) → i < length asked → one ≡ get_or asked i one
     → clients ≡ clients_left (take i asked) before s → responses ≡ answers_to (take i asked) before s
     → responses ++ (served one.0 one.1 clients (state_left (take i asked) before s)).answer ∷ [] ≡ answers_to (take (i + 1) asked) before s
 answers_next asked i one before clients s responses within is e f =
     ap (λ rs. rs ++ (served one.0 one.1 clients (state_left (take i asked) before s)).answer ∷ []) f
     ∙ ap (λ cs. answers_to (take i asked) before s ++ (served one.0 one.1 cs (state_left (take i asked) before s)).answer ∷ []) e
     ∙ sym (ap (λ xs. answers_to xs before s) (next asked i one within is) ∙ answers_push (take i asked) one before s)
+
+pub so_far_next : (asked : List (ℕ × Command)) (i : ℕ) (one : ℕ × Command) (before clients now : List Client) (s : Parts) (responses more : List Response) (was live : Option Parts)
+    → i < length asked → one ≡ get_or asked i one → SoFar (take i asked) before s responses clients was
+    → let out = served one.0 one.1 clients (state_left (take i asked) before s) in
+    (more ≡ responses ++ out.answer ∷ []) × (now ≡ out.clients) × (live ≡ Some out.state) → SoFar (take (i + 1) asked) before s more now live
+so_far_next asked i one before clients now s responses more was live within is so_far out = record {
+  answers = out.0 ∙ answers_next asked i one before clients s responses within is so_far.clients_are so_far.answers;
+  clients_are = out.1 ∙ clients_next asked i one before clients s within is so_far.clients_are;
+  state = out.2 ∙ ap Some (state_next asked i one before clients s within is so_far.clients_are);
+}
 
 pub either_stored : (out : Served) (s : Parts) (stop : ExecError) (stored : Option Stored) → ServeStores out s (Err stop) stored → (stored ≡ Some (Holds s)) ⊎ (stored ≡ Some (Holds out.state))
 either_stored out s Failed stored h = h

@@ -61,23 +61,14 @@ abbrev pub plan_of : Command → Client → Plan
 plan_of (command.StartSession hash) client = start_plan hash client
 plan_of other client = named_plan (session_named other) client
 
--- the command that the TPM gets, where it gets one
-abbrev pub passed : Plan → Command → Option Command
-passed plan.Pass c = Some c
-passed (plan.PassOn tpm) c = Some (on_session tpm c)
-passed (plan.NoSession own) c = None
-passed plan.WrongHash c = None
-passed plan.Full c = None
-passed plan.End c = None
-
--- the broker's own answer, where it gives one
-abbrev pub own_answer : Plan → Option Response
-own_answer plan.Pass = None
-own_answer (plan.PassOn tpm) = None
-own_answer (plan.NoSession own) = Some (answer.Refused (refusal.Handle own))
-own_answer plan.WrongHash = Some (answer.Refused refusal.Value)
-own_answer plan.Full = Some (answer.Refused refusal.SessionsFull)
-own_answer plan.End = Some (answer.Refused refusal.HandlesEnd)
+-- the broker's own refusal, where the TPM gets nothing
+abbrev pub own_refusal : Plan → Option Refusal
+own_refusal plan.Pass = None
+own_refusal (plan.PassOn tpm) = None
+own_refusal (plan.NoSession own) = Some (refusal.Handle own)
+own_refusal plan.WrongHash = Some refusal.Value
+own_refusal plan.Full = Some refusal.SessionsFull
+own_refusal plan.End = Some refusal.HandlesEnd
 
 -- a handle that the TPM refused, as the client calls it: the session's own handle, but the object's of an
 -- Unseal stays as it is
@@ -127,14 +118,18 @@ settled k c out clients = record {
   state = out.1;
 }
 
+-- where the broker refuses by itself
+abbrev pub unasked : Refusal → List Client → Parts → Served
+unasked why clients s = record { answer = answer.Refused why; clients = clients; state = s }
+
 -- a command of client k by the broker's plan
 abbrev pub served_by : Plan → ℕ → Command → List Client → Parts → Served
 served_by plan.Pass k c clients s = settled k c (respond c s) clients
 served_by (plan.PassOn tpm) k c clients s = settled k c (respond (on_session tpm c) s) clients
-served_by (plan.NoSession own) k c clients s = record { answer = answer.Refused (refusal.Handle own); clients = clients; state = s }
-served_by plan.WrongHash k c clients s = record { answer = answer.Refused refusal.Value; clients = clients; state = s }
-served_by plan.Full k c clients s = record { answer = answer.Refused refusal.SessionsFull; clients = clients; state = s }
-served_by plan.End k c clients s = record { answer = answer.Refused refusal.HandlesEnd; clients = clients; state = s }
+served_by (plan.NoSession own) k c clients s = unasked (refusal.Handle own) clients s
+served_by plan.WrongHash k c clients s = unasked refusal.Value clients s
+served_by plan.Full k c clients s = unasked refusal.SessionsFull clients s
+served_by plan.End k c clients s = unasked refusal.HandlesEnd clients s
 
 -- a command of client k
 abbrev pub served : ℕ → Command → List Client → Parts → Served
@@ -152,11 +147,10 @@ ServeStores out s (Ok response) stored = stored ≡ Some (Holds out.state)
 ServeStores out s (Err exec.Failed) stored = (stored ≡ Some (Holds s)) ⊎ (stored ≡ Some (Holds out.state))
 ServeStores out s (Err exec.Memory) stored = stored ≡ Some (Holds s)
 
--- where the broker gives an answer of its own, that is the result, and neither the clients nor the device
--- changed
-abbrev pub AnswersItself : Option Response → Result Response ExecError → Type 0 → Type 0 → Type 0
-AnswersItself None result same untouched = Unit {0}
-AnswersItself (Some response) result same untouched = (result ≡ Ok response) × same × untouched
+-- where the broker refuses by itself, that is the result, and neither the clients nor the device changed
+abbrev pub RefusesItself : Option Refusal → Result Response ExecError → Type 0 → Type 0 → Type 0
+RefusesItself None result same untouched = Unit {0}
+RefusesItself (Some why) result same untouched = (result ≡ Ok (answer.Refused why)) × same × untouched
 
 -- whether the device is ready afterwards: after a failure it isn't
 abbrev pub still_ready : {A : Type 0} → Result A ExecError → Bool

@@ -9,7 +9,7 @@ ghost use Rattle.tpm_model.specs.Rules.{HasRules};
 ghost use Rattle.tpm_device.specs.Stored.{Holds};
 ghost use Rattle.tpm_broker.specs.Clients.{HasRoomFor, IsClient, changed, client_at, new_client, without_all, without_first};
 ghost use Rattle.tpm_broker.specs.Leaving.{LeaveGives, LeaveStores};
-ghost use Rattle.tpm_broker.specs.Served.{AnswersItself, ServeGives, ServeStores, clients_after, clients_done, plan_of, own_answer, served, settled, still_ready, told as told_of};
+ghost use Rattle.tpm_broker.specs.Served.{RefusesItself, ServeGives, ServeStores, clients_after, clients_done, plan_of, own_refusal, served, settled, still_ready, told as told_of};
 
 use crate::commands::{on_session, told};
 use crate::leaving::flush_all;
@@ -197,7 +197,7 @@ impl Broker {
         ensures cause { HasCause (T.faults tpm.old) (T.faults tpm.new) (result ≡ Err ExecError.Failed) }
         ensures fitting { IfOk result (λ answer. fits command.now answer ≡ true) }
         ensures readiness { T.ready tpm.new ≡ still_ready result }
-        ensures alone { AnswersItself (own_answer (plan_of command.now (client_at client self.old))) result (self.new ≡ self.old) (tpm.new ≡ tpm.old) }
+        ensures unasked { RefusesItself (own_refusal (plan_of command.now (client_at client self.old))) result (self.new ≡ self.old) (tpm.new ≡ tpm.old) }
         ensures count { length self.new ≡ length self.old }
         ensures stopped { OnErr result (self.new ≡ self.old) }
         ensures told { (s : Parts) → T.live tpm.old ≡ Some s → ServeGives (served client command.now self.old s) s result self.new (T.live tpm.new) }

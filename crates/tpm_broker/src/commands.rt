@@ -44,10 +44,8 @@ fn handle_told(command: &Command, handle: u32) -> u32
         | Command::PolicyAuthorizeNv { session, .. }
         | Command::PolicyGetDigest { session }
         | Command::FlushSession { session } => *session,
-        Command::Unseal {
-            session,
-            handle: object,
-        } => { if handle == *object { handle } else { *session } }
+        Command::Unseal { handle: object, .. } if handle == *object => handle,
+        Command::Unseal { session, .. } => *session,
         Command::Restart { .. }
         | Command::PcrExtend { .. }
         | Command::PcrRead { .. }

@@ -10,7 +10,7 @@ use tpm_model::Command;
 
 /// What is done with a client's command.
 #[derive(Clone, Copy, Debug, PartialEq, Eq)]
-pub enum Plan {
+pub(crate) enum Plan {
     /// The TPM gets it as it is.
     Pass,
     /// The TPM gets it with this handle of the session.

@@ -11,11 +11,11 @@ use std::marker::Model;
 
 /// The two handles of a session: the client's and the TPM's.
 #[derive(Clone, Copy, Debug)]
-pub struct Handles {
+pub(crate) struct Handles {
     /// As the client calls it.
-    pub own: u32,
+    pub(crate) own: u32,
     /// As the TPM calls it.
-    pub tpm: u32,
+    pub(crate) tpm: u32,
 }
 
 /// The sessions of a client, with room for four. Contracts see the client.

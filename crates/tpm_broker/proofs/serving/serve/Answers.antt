@@ -8,7 +8,7 @@ use Rattle.tpm_device.specs.Stored.{Holds}
 use Rattle.tpm_broker.specs.Alone.{at_places, sessions_started}
 use Rattle.tpm_broker.specs.Lists.{answers_to, state_left}
 use Rattle.tpm_broker.proofs.AsAlone.{clients_alone}
-use Rattle.tpm_broker.proofs.InOrder.{answers_next, clients_next, state_next}
+use Rattle.tpm_broker.proofs.InOrder.{clients_next, so_far_next, state_next}
 use Rattle.tpm_broker.proofs.serving.serve.Goals as goal
 
 pub returns-in-Err-clause-stopped : goal.returns-in-Err-clause-stopped
@@ -44,12 +44,8 @@ loop-one-preserved g c =
           ∙ ap (λ t. Some (Holds t)) (state_next asked i c.one-item.result c.args.broker.now c.loop-one.broker s c.loop-one-test.true c.one-item.is so_far.clients_are);
       told = λ s live.
           let so_far = c.loop-one.invariant.told s live in
-          let out = c.in-Ok.ensures.told (state_left (take i asked) c.args.broker.now s) so_far.state in
-          record {
-            answers = out.0 ∙ answers_next asked i c.one-item.result c.args.broker.now c.loop-one.broker s c.loop-one.responses c.loop-one-test.true c.one-item.is so_far.clients_are so_far.answers;
-            clients_are = out.1 ∙ clients_next asked i c.one-item.result c.args.broker.now c.loop-one.broker s c.loop-one-test.true c.one-item.is so_far.clients_are;
-            state = out.2 ∙ ap Some (state_next asked i c.one-item.result c.args.broker.now c.loop-one.broker s c.loop-one-test.true c.one-item.is so_far.clients_are);
-          };
+          so_far_next asked i c.one-item.result c.args.broker.now c.loop-one.broker c.serve_next.new.broker s c.loop-one.responses c.serve_next.new.responses (g.T.Tpm.live c.loop-one.tpm)
+          (g.T.Tpm.live c.serve_next.new.tpm) c.loop-one-test.true c.one-item.is so_far (c.in-Ok.ensures.told (state_left (take i asked) c.args.broker.now s) so_far.state);
     }
 
 pub returns-clause-as_alone : goal.returns-clause-as_alone
