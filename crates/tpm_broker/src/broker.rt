@@ -1,5 +1,5 @@
 //! The broker.
-ghost use Rattle.std.specs.Prelude.{◌≡◌, ℕ, ◌<◌, ◌≤◌, true, length, map, replicate, Some, Err, IfOk, IfErr, IfSome, OnErr};
+ghost use Rattle.std.specs.Prelude.{◌≡◌, ℕ, ◌<◌, ◌≤◌, true, [], length, map, replicate, Some, Ok, Err, IfOk, IfErr, IfSome, OnErr};
 ghost use Rattle.pl_base.specs.Faults.{HasCause};
 ghost use Rattle.tpm_model.specs.declared.parts.Parts.{Parts};
 ghost use Rattle.tpm_model.specs.declared.response.Response.{Response as Answer};
@@ -218,7 +218,8 @@ impl Broker {
         }
     }
 
-    /// Ends the client's sessions in order of their handles, and gives their number.
+    /// Ends the client's sessions in order of their handles, and gives their number. Where there is none, it
+    /// makes no call on the device.
     ///
     /// # Errors
     ///
@@ -235,6 +236,7 @@ impl Broker {
         ensures readiness { T.ready tpm.new ≡ still_ready result }
         ensures count { IfOk result (λ count. count ≡ length (client_at client self.old).sessions) }
         ensures left { IfOk result (λ _. self.new ≡ changed client without_all self.old) }
+        ensures untouched { (client_at client self.old).sessions ≡ [] → (result ≡ Ok 0) × (tpm.new ≡ tpm.old) }
         ensures told { let sessions = (client_at client self.old).sessions in
             (n : ℕ) × (n ≤ length sessions) × (self.new ≡ changed client (without_first n) self.old)
             × ((s : Parts) → T.live tpm.old ≡ Some s → LeaveGives sessions n s result (T.live tpm.new)) }

@@ -1,5 +1,5 @@
 //! The end of a client's sessions.
-ghost use Rattle.std.specs.Prelude.{◌≡◌, ℕ, ◌<◌, ◌≤◌, true, length, slice_get, Some, Err, IfOk, IfSome, OnOk, OnErr};
+ghost use Rattle.std.specs.Prelude.{◌≡◌, ℕ, ◌<◌, ◌≤◌, true, [], length, slice_get, Some, Ok, Err, IfOk, IfSome, OnOk, OnErr};
 ghost use Rattle.pl_base.specs.Faults.{HasCause};
 ghost use Rattle.tpm_model.specs.declared.parts.Parts.{Parts};
 ghost use Rattle.tpm_model.specs.Rules.{HasRules};
@@ -48,6 +48,7 @@ pub(crate) fn flush_all<T: Tpm>(
     ensures readiness { T.ready tpm.new ≡ still_ready result }
     ensures count { IfOk result (λ count. count ≡ length rows.old.sessions) }
     ensures left { OnOk result (rows.new ≡ without_all rows.old) }
+    ensures untouched { rows.old.sessions ≡ [] → (result ≡ Ok 0) × (tpm.new ≡ tpm.old) }
     ensures told { (n : ℕ) × (n ≤ length rows.old.sessions) × (rows.new ≡ without_first n rows.old)
         × ((s : Parts) → T.live tpm.old ≡ Some s → LeaveGives rows.old.sessions n s result (T.live tpm.new)) }
     ensures rules { (s : Parts) → T.live tpm.old ≡ Some s → HasRules s → IfSome (T.live tpm.new) HasRules }

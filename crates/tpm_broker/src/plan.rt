@@ -4,7 +4,7 @@ ghost use Rattle.tpm_model.specs.Sessions.{is_session_hash as allowed};
 ghost use Rattle.tpm_broker.specs.Clients.{tpm_handle};
 ghost use Rattle.tpm_broker.specs.Served.{plan_of, session_plan, start_plan};
 
-use crate::rows::Rows;
+use crate::rows::{Rows, SESSIONS};
 use hash_bank::Bank;
 use tpm_model::Command;
 
@@ -24,9 +24,6 @@ pub(crate) enum Plan {
     /// The client has had all sessions that it may have.
     End,
 }
-
-/// The most open sessions of a client.
-const SESSIONS: usize = 4;
 
 /// The number that no session of a client has any more.
 const NUMBERS: u32 = 0x0100_0000;

@@ -38,7 +38,7 @@ impl Model for Rows {
 }
 
 /// The most open sessions of a client.
-const ROOM: usize = 4;
+pub(crate) const SESSIONS: usize = 4;
 
 /// The handle of the session with number 0.
 const FIRST_SESSION: u32 = 0x0300_0000;
@@ -67,7 +67,7 @@ impl Rows {
     {
         Ok(Rows {
             had: 0,
-            sessions: Vec::with_capacity(alloc, ROOM)?,
+            sessions: Vec::with_capacity(alloc, SESSIONS)?,
         })
     }
 

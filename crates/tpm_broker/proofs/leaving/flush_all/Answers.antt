@@ -33,6 +33,7 @@ loop-preserved g c =
       ready = c.in-Ok.ensures.readiness;
       later = omega (arith, c.loop.invariant.later, c.in-Ok.ensures.cause.later);
       rest = one_less n c.args.rows.now c.loop.rows c.flush_first.new.rows c.loop.invariant.rest c.in-Ok.ensures.left;
+      untouched = λ e. absurd (omega arith);
       rules = λ s live h.
           let t = after_flushes (take n xs) s in
           c.in-Ok.ensures.rules t (c.loop.invariant.told s live) (subst (λ o. IfSome o HasRules) (c.loop.invariant.told s live) (c.loop.invariant.rules s live h));

@@ -12,6 +12,7 @@ invariant-loop g l = record {
   ready : g.T.Tpm.ready l.tpm ≡ true;
   later : g.T.Tpm.faults l.fn.tpm ≤ g.T.Tpm.faults l.tpm;
   rest : l.rows ≡ without_first l.counter l.fn.rows;
+  untouched : l.counter ≡ 0 → l.tpm ≡ l.fn.tpm;
   rules : (s : Parts) → g.T.Tpm.live l.fn.tpm ≡ Some s → HasRules s → IfSome (g.T.Tpm.live l.tpm) HasRules;
   stored : (s : Parts) → g.T.Tpm.live l.fn.tpm ≡ Some s → g.T.Tpm.stored l.fn.tpm ≡ Some (Holds s)
       → g.T.Tpm.stored l.tpm ≡ Some (Holds (after_flushes (take l.counter l.fn.rows.sessions) s));
