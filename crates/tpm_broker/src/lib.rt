@@ -11,4 +11,4 @@ mod serving;
 mod tests;
 
 pub use crate::broker::Broker;
-pub use crate::serving::serve;
+pub use crate::serving::{each_is_answered_alone, serve};

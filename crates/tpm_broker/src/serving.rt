@@ -1,5 +1,5 @@
 //! Commands of clients that come one after the other.
-ghost use Rattle.std.specs.Prelude.{◌≡◌, ◌⊎◌, ℕ, ◌+◌, ◌*◌, ◌<◌, ◌≤◌, true, All, ◌∷◌, [], ◌++◌, length, replicate, take, Some, Err, IfOk, IfErr, IfSome, MatchResult};
+ghost use Rattle.std.specs.Prelude.{◌≡◌, ◌⊎◌, ℕ, ◌+◌, ◌*◌, ◌<◌, ◌≤◌, true, All, List as Sequence, ◌∷◌, [], ◌++◌, length, replicate, take, Some, Err, IfOk, IfErr, IfSome, MatchResult};
 ghost use Rattle.pl_base.specs.Faults.{HasCause};
 ghost use Rattle.tpm_model.specs.declared.command.Command.{Command as Asked};
 ghost use Rattle.tpm_model.specs.declared.parts.Parts.{Parts};
@@ -97,3 +97,11 @@ pub fn serve<T: Tpm>(
     }
     Ok(responses)
 }
+
+/// The law of every list of commands that come through a new broker of n clients, whichever calls bring
+/// them: each client is answered as if it were alone. The call does nothing; it tells the law.
+pub fn each_is_answered_alone()
+    ensures { (n k : ℕ) (asked : Sequence (ℕ × Asked)) (s : Parts) → HasRules s → k < n → All (λ (one : ℕ × Asked). one.0 < n) asked
+        → length s.sessions + 4 * n ≤ 64 → s.next_session + sessions_started asked (replicate n new_client) s ≤ 0x01000000
+        → at_places k asked (answers_to asked (replicate n new_client) s) ≡ alone k asked (without_sessions s) }
+{}
