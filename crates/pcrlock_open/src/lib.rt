@@ -4,6 +4,8 @@
 mod answers;
 mod bound;
 mod opening;
+#[cfg(test)]
+mod tests;
 mod token;
 
 pub use crate::bound::open_bound;
