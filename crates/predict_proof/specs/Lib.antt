@@ -1,0 +1,4 @@
+pub mod Proved
+pub mod Joint
+pub mod Chosen
+pub mod Fault
