@@ -5,3 +5,9 @@ pub mod Differing
 pub mod Faults
 pub mod JointLemmas
 pub mod Checks
+pub mod Texts
+pub mod Bytes
+pub mod NumberTexts
+pub mod MaskTexts
+pub mod LineTexts
+pub mod FileLemmas

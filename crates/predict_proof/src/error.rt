@@ -1,4 +1,8 @@
+ghost use Rattle.std.specs.Prelude.{◌≡◌};
+ghost use Rattle.predict_proof.specs.declared.error.ProofError.TheVariants.{Memory as OutOfMemory};
+
 use hash_bank::Digest;
+use pl_base::Memory;
 
 /// Why a list isn't proved: the number of its first member that isn't, from 0 on, and what is wrong
 /// with it.
@@ -19,4 +23,23 @@ pub enum CheckError {
         /// The value that the choice leads to.
         reached: Digest,
     },
+}
+
+/// Why a text is no proof file.
+#[derive(Clone, Copy, Debug, PartialEq, Eq)]
+pub enum ProofError {
+    /// The line with this number, from 0 on, is the first that isn't as it has to be.
+    BadLine(u32),
+    /// There are more than 12,288 lines of proofs, and as many are good.
+    TooMany,
+    /// Memory ran out.
+    Memory,
+}
+
+impl From<Memory> for ProofError {
+    ghost from_gives = { λ _ error. error ≡ OutOfMemory };
+
+    fn from(_memory: Memory) -> ProofError {
+        ProofError::Memory
+    }
 }

@@ -1,12 +1,21 @@
 //! Predictions that prove themselves: each foreseen state of some PCRs with the cut and the choice of
-//! variants that lead to it, and a check of such a list that needs the components alone.
+//! variants that lead to it, a check of such a list that needs the components alone, and the file that
+//! holds one.
 #![tactic(auto)]
 
 mod checking;
 mod error;
+mod file;
 mod proof;
 mod reaching;
+mod reading;
+mod values;
+mod words;
+mod writing;
 
 pub use checking::check;
-pub use error::CheckError;
+pub use error::{CheckError, ProofError};
+pub use file::ProofFile;
 pub use proof::Proof;
+pub use reading::read_proofs;
+pub use writing::write_proofs;

@@ -1,0 +1,31 @@
+use Rattle.std.proofs.Common.{Ok, Err, sym}
+use Rattle.predict_proof.specs.declared.error.ProofError.TheVariants as errors
+use Rattle.predict_proof.proofs.FileLemmas.{file_read, file_refused, first_bad, spelled_so, unended_head, unread_head}
+use Rattle.predict_proof.proofs.reading.read_proofs.Goals as goal
+
+pub returns-in_default-clause-reads : goal.returns-in_default-clause-reads
+returns-in_default-clause-reads c = first_bad c.args.bytes.now (unended_head c.args.bytes.now c.in_default.ensures)
+
+pub returns-in_default-clause-spelled : goal.returns-in_default-clause-spelled
+returns-in_default-clause-spelled c = spelled_so c.args.bytes.now (Err (errors.BadLine 0)) (returns-in_default-clause-reads c)
+
+pub returns-in_default-read_head-clause-reads : goal.returns-in_default-read_head-clause-reads
+returns-in_default-read_head-clause-reads c = first_bad c.args.bytes.now (unread_head c.args.bytes.now c.in-Some.line.now c.in-Some.rest.now c.in-Some.ensures (sym c.in_default-read_head.ensures))
+
+pub returns-in_default-read_head-clause-spelled : goal.returns-in_default-read_head-clause-spelled
+returns-in_default-read_head-clause-spelled c = spelled_so c.args.bytes.now (Err (errors.BadLine 0)) (returns-in_default-read_head-clause-reads c)
+
+pub returns-in-Ok-clause-reads : goal.returns-in-Ok-clause-reads
+returns-in-Ok-clause-reads c =
+    file_read c.args.bytes.now c.in-Some.line.now c.in-Some.rest.now c.in-Some-read_head.bank c.in-Some-read_head.locality c.in-Some.ensures (sym c.in-Some-read_head.ensures) c.in-Ok.proofs c.in-Ok.ensures
+
+pub returns-in-Ok-clause-spelled : goal.returns-in-Ok-clause-spelled
+returns-in-Ok-clause-spelled c =
+    spelled_so c.args.bytes.now (Ok (record { bank = c.in-Some-read_head.bank; locality = c.in-Some-read_head.locality; proofs = c.in-Ok.proofs })) (returns-in-Ok-clause-reads c)
+
+pub returns-in-Err-clause-reads : goal.returns-in-Err-clause-reads
+returns-in-Err-clause-reads c =
+    file_refused c.args.bytes.now c.in-Some.line.now c.in-Some.rest.now c.in-Some-read_head.bank c.in-Some-read_head.locality c.in-Some.ensures (sym c.in-Some-read_head.ensures) c.in-Err.error c.in-Err.ensures
+
+pub returns-in-Err-clause-spelled : goal.returns-in-Err-clause-spelled
+returns-in-Err-clause-spelled c = spelled_so c.args.bytes.now (Err c.in-Err.error) (returns-in-Err-clause-reads c)
