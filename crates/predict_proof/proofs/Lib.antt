@@ -11,3 +11,9 @@ pub mod NumberTexts
 pub mod MaskTexts
 pub mod LineTexts
 pub mod FileLemmas
+pub mod Firsts
+pub mod Growths
+pub mod OverCuts
+pub mod NextLemmas
+pub mod SpreadLemmas
+pub mod AllProved

@@ -1,7 +1,9 @@
 pub mod Proved
 pub mod Joint
+pub mod Proving
 pub mod ProofText
 pub mod ReadsAs
 pub mod Chosen
 pub mod Fault
 pub mod Words
+pub mod NextProofs

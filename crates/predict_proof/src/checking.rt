@@ -96,7 +96,7 @@ fn fault(
 }
 
 /// The components inside the window's end, which are the tree's first ones.
-fn components_inside<'a>(tree: &'a Tree, end: &Name) -> &'a [Component]
+pub(crate) fn components_inside<'a>(tree: &'a Tree, end: &Name) -> &'a [Component]
     ensures value { plain result.now ≡ inside_of end.now (plain tree.now.components) }
     ensures few { length result.now ≤ 256 }
 {

@@ -83,7 +83,7 @@ pub(crate) fn lacks_some(bank: Bank, pcrs: u32, components: &[Component], choice
 }
 
 /// What the PCR that held the value holds after extends by the bank's digests of its records.
-fn extend_by(bank: Bank, value: &Digest, pcr: u8, records: &[CelRecord]) -> Digest
+pub(crate) fn extend_by(bank: Bank, value: &Digest, pcr: u8, records: &[CelRecord]) -> Digest
     requires { length value.now ≡ size_in bank }
     ensures value { result ≡ extended_by bank value.now (digests_in bank pcr (map spelled records.now)) }
     ensures size { length result ≡ size_in bank }
