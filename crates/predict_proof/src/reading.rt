@@ -1,8 +1,10 @@
 //! Proof files, read.
-ghost use Rattle.std.specs.Prelude.{◌≡◌, ◌⊎◌, option_map, IfOk, Ok, Err};
+ghost use Rattle.std.specs.Prelude.{◌≡◌, ◌⊎◌, ◌≤◌, length, IfOk, Ok, Err};
+ghost use Rattle.std.specs.List.{All};
 ghost use Rattle.hash_bank.specs.declared.bank.Bank.{Bank as BankName};
 ghost use Rattle.predict_proof.specs.declared.error.ProofError.TheVariants as errors;
 ghost use Rattle.predict_proof.specs.declared.file.ProofFile.{ProofFile as File};
+ghost use Rattle.predict_proof.specs.Proved.{HasShape};
 ghost use Rattle.predict_proof.specs.ProofText.{file_text};
 ghost use Rattle.predict_proof.specs.ReadsAs.{IsFile, ReadsAs, ReadsLines};
 ghost use Rattle.predict_proof.specs.Words.{head_of, proof_by, proof_of};
@@ -122,6 +124,8 @@ fn read_lines(alloc: Global, bank: Bank, text: &[u8]) -> Result<List<Proof>, Pro
 /// where a further line begins. `Memory` may come at any step.
 pub fn read_proofs(alloc: Global, bytes: &[u8]) -> Result<ProofFile, ProofError>
     ensures reads { ReadsAs bytes.now result }
+    ensures few { IfOk result (λ file. length file.proofs ≤ 12288) }
+    ensures shaped { IfOk result (λ file. All (HasShape file.bank) file.proofs) }
     ensures spelled { (file : File) → IsFile file → bytes.now ≡ file_text file → (result ≡ Ok file) ⊎ (result ≡ Err errors.Memory) }
 {
     let Some((line, rest)) = next_line(bytes) else {

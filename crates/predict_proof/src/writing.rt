@@ -1,8 +1,8 @@
 //! Proof files as text.
 ghost use Rattle.std.specs.Prelude.{◌≡◌, ◌++◌, flat_map, map, codes, IfOk, OnOk, string_bytes};
-ghost use Rattle.std.specs.List.{join_with_byte};
+ghost use Rattle.std.specs.List.{All, join_with_byte};
 ghost use Rattle.std.specs.Fmt.{decimal};
-ghost use Rattle.hex.specs.Hex.{encode_lower};
+ghost use Rattle.hex.specs.Hex.{encode_lower, IsBytes};
 ghost use Rattle.policy_digest.specs.Mask.{pcrs_of};
 ghost use Rattle.predict_proof.specs.ProofText.{choice_text, file_text, head_text, line, numbers_text, proof_text, proofs_text, values_text};
 
@@ -125,13 +125,41 @@ fn write_head(text: &mut String, bank: Bank, locality: u8) -> Result<(), Memory>
     Ok(())
 }
 
+/// What stands in a slice of bytes is below 256.
+fn are_bytes(bytes: &[u8])
+    ensures { IsBytes bytes.now }
+{
+    let _ = bytes;
+}
+
+/// The digests are lists of bytes.
+fn values_are_bytes(values: &[Digest])
+    ensures { All IsBytes values.now }
+{
+    for digest in values {
+        are_bytes(digest.as_slice());
+    }
+}
+
+/// The values of the proofs are lists of bytes.
+fn proofs_are_bytes(proofs: &[Proof])
+    ensures { All (λ q. All IsBytes q.values) proofs.now }
+{
+    for proof in proofs {
+        values_are_bytes(proof.values.as_slice());
+    }
+}
+
 /// The file's text: lines that each end in a line feed, the first `pcrlock-proof 1 BANK LOCALITY`, and one
 /// for each proof, of four words with single spaces between. The words are the PCRs, ascending; the cut;
 /// the numbers of the chosen variants, or `-` for none; and the values in lower-case hexadecimal digits.
 /// Commas part a list, and numbers are decimal without sign and leading zero.
 pub fn write_proofs(alloc: Global, file: &ProofFile) -> Result<Vec<u8>, Memory>
-    ensures { IfOk result (λ text. text.items ≡ file_text file.now) }
+    ensures text { IfOk result (λ text. text.items ≡ file_text file.now) }
+    // What any file keeps, told here for what its text is read as.
+    ensures bytes { All (λ q. All IsBytes q.values) file.now.proofs }
 {
+    proofs_are_bytes(file.proofs.as_slice());
     let mut text = String::new(alloc);
     write_head(&mut text, file.bank, file.locality)?;
     write_lines(alloc, &mut text, file.proofs.as_slice())?;

@@ -1,5 +1,8 @@
 use Rattle.std.proofs.Common.{Ok, Err, sym}
+use Rattle.std.proofs.lemmas.List.Elements.{All-weaker}
 use Rattle.predict_proof.specs.declared.error.ProofError.TheVariants as errors
+use Rattle.predict_proof.specs.Proved.{HasShape}
+use Rattle.predict_proof.specs.ReadsAs.{IsLine}
 use Rattle.predict_proof.proofs.FileLemmas.{file_read, file_refused, first_bad, spelled_so, unended_head, unread_head}
 use Rattle.predict_proof.proofs.reading.read_proofs.Goals as goal
 
@@ -18,6 +21,12 @@ returns-in_default-read_head-clause-spelled c = spelled_so c.args.bytes.now (Err
 pub returns-in-Ok-clause-reads : goal.returns-in-Ok-clause-reads
 returns-in-Ok-clause-reads c =
     file_read c.args.bytes.now c.in-Some.line.now c.in-Some.rest.now c.in-Some-read_head.bank c.in-Some-read_head.locality c.in-Some.ensures (sym c.in-Some-read_head.ensures) c.in-Ok.proofs c.in-Ok.ensures
+
+pub returns-in-Ok-clause-few : goal.returns-in-Ok-clause-few
+returns-in-Ok-clause-few c = (returns-in-Ok-clause-reads c).0.few
+
+pub returns-in-Ok-clause-shaped : goal.returns-in-Ok-clause-shaped
+returns-in-Ok-clause-shaped c = All-weaker (IsLine c.in-Some-read_head.bank) (HasShape c.in-Some-read_head.bank) (λ q line. line.shape) c.in-Ok.proofs (returns-in-Ok-clause-reads c).0.lines
 
 pub returns-in-Ok-clause-spelled : goal.returns-in-Ok-clause-spelled
 returns-in-Ok-clause-spelled c =
