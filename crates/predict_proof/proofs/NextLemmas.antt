@@ -1,5 +1,6 @@
 -- Proofs put to a list, one after the other, and their values.
-use Rattle.std.proofs.Common.{◌≡◌, ℕ, ◌+◌, ◌<◌, List, [], ◌∷◌, length, get_or, drop, map, Err, refl, sym, ap, ◌∙◌, arith}
+use Rattle.std.proofs.Common.{◌≡◌, ℕ, ◌+◌, ◌-◌, ◌<◌, Bool, false, ◌||◌, List, [], ◌∷◌, length, get_or, drop, map, Err, refl, sym, ap, ◌∙◌, arith}
+use Rattle.std.specs.List.{list_any}
 use Rattle.hash_bank.specs.declared.bank.Bank.{Bank}
 use Rattle.component_tree.specs.declared.tree.Variant.{Variant}
 use Rattle.component_tree.specs.PlainTree.{PlainVariant, plain_variant}
@@ -47,6 +48,18 @@ step_stops bank pcrs cut variants list new proofs i q stops.Full lt is h so_far 
     put_full (put_all same_values list (nexts_from bank pcrs cut 0 variants q)) (next_proofs bank pcrs cut variants (drop (i + 1) proofs)) (distinct same_values (next_proofs bank pcrs cut variants proofs)) h
     (step_next bank pcrs cut variants list (put_all same_values list (nexts_from bank pcrs cut 0 variants q)) (distinct same_values (next_proofs bank pcrs cut variants proofs)) proofs i q lt is refl so_far)
 step_stops bank pcrs cut variants list new proofs i q stops.Memory lt is h so_far = tt
+
+-- ---- from the last one back
+
+pub back_next : (test : Proof → Bool) (list : List Proof) (passed place : ℕ) (x : Proof) → passed < length list → place ≡ length list - 1 - passed → x ≡ get_or list place x → test x ≡ false
+    → list_any test (drop (length list - passed) list) ≡ false → list_any test (drop (length list - (passed + 1)) list) ≡ false
+back_next test list passed place x lt at is fails so_far =
+    let here : length list - (passed + 1) ≡ place = omega arith in
+    let behind : place + 1 ≡ length list - passed = omega arith in
+    ap (λ n. list_any test (drop n list)) here
+    ∙ ap (list_any test) (next list place x (omega arith) is)
+    ∙ ap (λ b. b || list_any test (drop (place + 1) list)) fails
+    ∙ ap (λ n. list_any test (drop n list)) behind ∙ so_far
 
 -- ---- their values
 

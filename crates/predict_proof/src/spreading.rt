@@ -141,11 +141,18 @@ fn copy(alloc: Global, proof: &Proof) -> Result<Proof, Memory>
     })
 }
 
-/// Whether one of the proofs has these values.
+/// Whether one of the proofs has these values. The last ones are looked at first, since variants that
+/// measure the same lead to equal values one after the other.
 fn has_values(list: &[Proof], values: &Values) -> bool
     ensures { result ≡ list_any (λ q. values_eq values.now q.values) list.now }
 {
-    list.iter().any(|proof| values.is_same(&proof.values))
+    for passed in 0..list.len() {
+        let place = list.len() - 1 - passed;
+        if values.is_same(&list[place].values) {
+            return true;
+        }
+    }
+    false
 }
 
 /// Puts the proof at the end, unless one with its values is there.
