@@ -6,7 +6,7 @@ use Rattle.std.specs.Option.{unwrap_or}
 use Rattle.std.proofs.lemmas.Bool.{eq-eqb}
 use Rattle.std.proofs.lemmas.List.{length-append, length_push}
 use Rattle.std.proofs.lemmas.List.Concat.{flat_map-append}
-use Rattle.std.proofs.lemmas.List.Elements.{All-nil, All-head, All-tail, All-push}
+use Rattle.std.proofs.lemmas.List.Elements.{All-head, All-tail, All-push}
 use Rattle.std.proofs.lemmas.List.Splits.{join_with_byte-slice_split, slice_split_at}
 use Rattle.hash_bank.specs.declared.bank.Bank.{Bank}
 use Rattle.tpm_commands.specs.Parts.{parts_of}
@@ -16,7 +16,7 @@ use Rattle.predict_proof.specs.declared.file.ProofFile.{ProofFile}
 use Rattle.predict_proof.specs.declared.error.ProofError.{ProofError}
 use Rattle.predict_proof.specs.declared.error.ProofError.TheVariants as errors
 use Rattle.predict_proof.specs.ProofText.{proof_text, head_text, line, proofs_text, file_text}
-use Rattle.predict_proof.specs.ReadsAs.{IsLine, IsFile, BeginsWithHead, BeginsWithProof, GoesOn, IsFirstBad, HasMore, ReadsAs, LinesBefore, BadLines, MoreLines, ReadsLines}
+use Rattle.predict_proof.specs.ReadsAs.{IsLine, IsFile, BeginsWithHead, BeginsWithProof, GoesOn, IsFirstBad, HasMore, ReadsAs, LinesBefore, BadLines, ReadsLines}
 use Rattle.predict_proof.specs.Words.{is_locality, proof_of, head_of}
 use Rattle.predict_proof.proofs.Bytes.{From, none_there}
 use Rattle.predict_proof.proofs.LineTexts.{line_from, proof_back, proof_read, head_from, head_back, head_read}
@@ -73,9 +73,6 @@ unread_head text word behind parts none b =
 
 -- ---- lines before
 
-pub none_before : (bank : Bank) (text : List ℕ) → LinesBefore bank text [] text
-none_before bank text = record { lines = All-nil (IsLine bank); text_is = refl }
-
 pub one_before : (bank : Bank) (text rest word behind : List ℕ) (proofs : List Proof) (q : Proof) → LinesBefore bank text proofs rest → parts_of 10 rest ≡ word ∷ parts_of 10 behind → proof_of bank word ≡ Some q → LinesBefore bank text (proofs ++ q ∷ []) behind
 one_before bank text rest word behind proofs q b parts some =
     let read = proof_read bank word q some in
@@ -91,9 +88,6 @@ bad_unended bank text rest proofs n b few is some one = record { before = proofs
 
 pub bad_unread : (bank : Bank) (text rest word behind : List ℕ) (proofs : List Proof) (n : ℕ) → LinesBefore bank text proofs rest → length proofs < 12288 → n ≡ length proofs + 1 → rest ≢ [] → parts_of 10 rest ≡ word ∷ parts_of 10 behind → proof_of bank word ≡ None → BadLines bank text n
 bad_unread bank text rest word behind proofs n b few is some parts none = record { before = proofs; rest = rest; good = b; few = few; number_is = is; some = some; bad = unread bank rest word behind parts none }
-
-pub more_lines : (bank : Bank) (text rest : List ℕ) (proofs : List Proof) → LinesBefore bank text proofs rest → length proofs ≡ 12288 → rest ≢ [] → MoreLines bank text
-more_lines bank text rest proofs b full some = record { before = proofs; rest = rest; good = b; full = full; some = some }
 
 -- ---- the whole file
 

@@ -125,17 +125,6 @@ module _ (bank : Bank) (locality mask : ℕ) (pcrs : List ℕ) (components : Lis
   first_stops last stops.Full proofs new are puts = too_many_over 0 last (put_all same_values [] (cond (eqb first 0) proofs [])) (omega arith) refl (first_given proofs are) puts
   first_stops last stops.Memory proofs new are puts = tt
 
-  pub first_spread : (proofs new : List Proof) → proofs ≡ start ∷ [] → PutsProofs {A = Unit {0}} (Ok tt) [] new (cond (eqb first 0) proofs []) → spread_to 0 proofs new
-  first_spread proofs new are puts =
-      let given : new ≡ over_cuts same_values proofs_k (cuts_between first 0) = puts.0 ∙ first_given proofs are in
-      let one : length (distinct same_values (proofs_k 0)) ≤ value_limit = omega arith in
-      record {
-        proofs_are = are;
-        given_are = given;
-        few_given = puts.1;
-        none = ap (λ b. cond b (Some 0) None) (few_enough 0 one (subst (λ (l : List Proof). length l ≤ value_limit) given puts.1));
-      }
-
   -- ---- one component more
 
   module _ (i : ℕ) (c : Component) (lt : i < length components) (is : c ≡ get_or components i c) (proofs given : List Proof) (s : spread_to i proofs given) where
@@ -186,9 +175,3 @@ module _ (bank : Bank) (locality mask : ℕ) (pcrs : List ℕ) (components : Lis
       ap all_states (sym all)
       ∙ ap (λ (o : Option ℕ). foreseen_unless None o (over_cuts values_eq states_k (cuts_between first i))) s.none
       ∙ ap Ok (sym (ap values_in s.given_are ∙ over_values (cuts_between first i)))
-
-  pub all_given : (i last : ℕ) (proofs given : List Proof) → i ≡ last → spread_to i proofs given → given ≡ over_cuts same_values proofs_k (cuts_between first last)
-  all_given i last proofs given all s = s.given_are ∙ ap (λ k. over_cuts same_values proofs_k (cuts_between first k)) all
-
-  pub few_at_last : (i : ℕ) (proofs given : List Proof) → spread_to i proofs given → length given ≤ 512
-  few_at_last i proofs given s = s.few_given

@@ -3,10 +3,9 @@ use Rattle.std.proofs.Common.{◌≡◌, ℕ, zero, suc, ◌+◌, ◌<◌, Bool,
 use Rattle.std.specs.Prelude.{slice_get, ◌⊎◌}
 use Rattle.std.specs.List.{flat_map, list_any}
 use Rattle.std.specs.Option.{option_to_list}
-use Rattle.std.proofs.lemmas.List.{length-map, drop_more}
 use Rattle.hash_bank.specs.declared.bank.Bank.{Bank}
 use Rattle.component_tree.specs.declared.tree.Component.{Component}
-use Rattle.component_tree.specs.PlainTree.{PlainVariant, PlainComponent, plain, plain_component, plain_variant}
+use Rattle.component_tree.specs.PlainTree.{PlainVariant, PlainComponent, plain, plain_component}
 use Rattle.pcr_replay.specs.Measured.{extended_by}
 use Rattle.record_match.specs.Choices.{chosen}
 use Rattle.record_match.specs.Extends.{digests_in, variants_of}
@@ -92,20 +91,6 @@ lacks_here bank pcrs cs choice i c whole lt is some so_far =
 
 abbrev pub choice_from : List Component → List ℕ → ℕ → Bool
 choice_from cs choice i = is_choice (variants_of (plain (drop i cs))) (drop i choice)
-
-choice_step : (cs : List Component) (choice : List ℕ) (i : ℕ) (c : Component) → i < length cs → c ≡ get_or cs i c → i < length choice → choice_from cs choice i ≡ (ltb (get_or choice i 0) (length c.variants) && choice_from cs choice (i + 1))
-choice_step cs choice i c lt is there =
-    ap (λ ds. is_choice (variants_of (plain ds)) (drop i choice)) (next cs i c lt is)
-    ∙ ap (is_choice (variants_of (plain (c ∷ drop (i + 1) cs)))) (drop_more choice i 0 there)
-    ∙ ap (λ n. ltb (get_or choice i 0) n && choice_from cs choice (i + 1)) (length-map c.variants plain_variant)
-
-pub choice_next : (cs : List Component) (choice : List ℕ) (i : ℕ) (c : Component) (whole : Bool) → i < length cs → c ≡ get_or cs i c → i < length choice → ltb (get_or choice i 0) (length c.variants) ≡ true
-    → choice_from cs choice i ≡ whole → choice_from cs choice (i + 1) ≡ whole
-choice_next cs choice i c whole lt is there below so_far = sym (choice_step cs choice i c lt is there ∙ ap (λ b. b && choice_from cs choice (i + 1)) below) ∙ so_far
-
-pub choice_ends : (cs : List Component) (choice : List ℕ) (i : ℕ) (c : Component) (whole : Bool) → i < length cs → c ≡ get_or cs i c → i < length choice → ltb (get_or choice i 0) (length c.variants) ≡ false
-    → choice_from cs choice i ≡ whole → false ≡ whole
-choice_ends cs choice i c whole lt is there above so_far = sym (choice_step cs choice i c lt is there ∙ ap (λ b. b && choice_from cs choice (i + 1)) above) ∙ so_far
 
 -- of another length
 pub choice_short : {A : Type 0} (alternatives : List (List A)) (choice : List ℕ) → (length choice ≡ length alternatives → ⊥) → is_choice alternatives choice ≡ false
