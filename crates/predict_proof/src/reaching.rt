@@ -3,7 +3,7 @@ ghost use Rattle.std.specs.Prelude.{◌≡◌, ◌≤◌, map, length, slice_get
 ghost use Rattle.std.specs.List.{list_any};
 ghost use Rattle.hash_bank.specs.Hash.{size_in};
 ghost use Rattle.cel_record.specs.Spelled.{spelled};
-ghost use Rattle.component_tree.specs.PlainTree.{plain, plain_component, plain_variant};
+ghost use Rattle.component_tree.specs.PlainTree.{plain, plain_component};
 ghost use Rattle.pcr_replay.specs.Measured.{extended_by};
 ghost use Rattle.record_match.specs.Choices.{chosen};
 ghost use Rattle.record_match.specs.Extends.{digests_in, reached_by, variants_of};

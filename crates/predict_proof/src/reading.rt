@@ -1,7 +1,6 @@
 //! Proof files, read.
 ghost use Rattle.std.specs.Prelude.{◌≡◌, ◌⊎◌, ◌≤◌, length, IfOk, Ok, Err};
 ghost use Rattle.std.specs.List.{All};
-ghost use Rattle.hash_bank.specs.declared.bank.Bank.{Bank as BankName};
 ghost use Rattle.predict_proof.specs.declared.error.ProofError.TheVariants as errors;
 ghost use Rattle.predict_proof.specs.declared.file.ProofFile.{ProofFile as File};
 ghost use Rattle.predict_proof.specs.Proved.{HasShape};

@@ -1,5 +1,5 @@
 //! The words of a line, and its end.
-ghost use Rattle.std.specs.Prelude.{◌≡◌, ◌<◌, ◌∷◌, length, option_map, MatchOption};
+ghost use Rattle.std.specs.Prelude.{◌≡◌, ◌∷◌, length, option_map, MatchOption};
 ghost use Rattle.tpm_commands.specs.Parts.{parts_of, parts_behind, one_of, two_of, three_of, four_of};
 
 use tpm_commands::cut;

@@ -1,6 +1,6 @@
 //! Proof files as text.
-ghost use Rattle.std.specs.Prelude.{◌≡◌, ◌++◌, flat_map, map, codes, IfOk, OnOk, string_bytes};
-ghost use Rattle.std.specs.List.{All, join_with_byte};
+ghost use Rattle.std.specs.Prelude.{◌≡◌, ◌++◌, flat_map, codes, IfOk, OnOk, string_bytes};
+ghost use Rattle.std.specs.List.{All};
 ghost use Rattle.std.specs.Fmt.{decimal};
 ghost use Rattle.hex.specs.Hex.{encode_lower, IsBytes};
 ghost use Rattle.policy_digest.specs.Mask.{pcrs_of};
