@@ -105,30 +105,6 @@ fn next_choice(alloc: Global, choice: &[u32], number: u32) -> Result<List<u32>, 
     Ok(next)
 }
 
-/// The proof after the records of one more component's variant of this number.
-fn next_proof(
-    alloc: Global,
-    bank: Bank,
-    pcrs: &[u8],
-    cut: u32,
-    proof: &Proof,
-    number: u32,
-    records: &[CelRecord],
-) -> Result<Proof, Memory>
-    requires some { 1 ≤ length pcrs.now }
-    requires few { length pcrs.now ≤ 24 }
-    requires fits { HasState bank (length pcrs.now) proof.now }
-    ensures value { IfOk result (λ next. next ≡ next_of bank pcrs.now cut proof.now number (map spelled records.now)) }
-    ensures fits { IfOk result (HasState bank (length pcrs.now)) }
-{
-    Ok(Proof {
-        pcrs: proof.pcrs,
-        cut,
-        choice: next_choice(alloc, proof.choice.as_slice(), number)?,
-        values: next_values(alloc, bank, pcrs, proof.values.as_slice(), records)?,
-    })
-}
-
 /// An equal proof with memory of its own.
 fn copy(alloc: Global, proof: &Proof) -> Result<Proof, Memory>
     ensures { IfOk result (λ q. q ≡ proof.now) }
@@ -155,14 +131,46 @@ fn has_values(list: &[Proof], values: &Values) -> bool
     false
 }
 
-/// Puts the proof at the end, unless one with its values is there.
-fn put(list: &mut List<Proof>, proof: Proof) -> Result<(), Memory>
-    ensures { OnOk result (list.new ≡ put same_values list.old proof) }
+/// Puts the proof after the records of one more component's variant of this number to the list, unless
+/// one with its values is there.
+fn put_next(
+    alloc: Global,
+    bank: Bank,
+    pcrs: &[u8],
+    cut: u32,
+    proof: &Proof,
+    number: u32,
+    records: &[CelRecord],
+    list: &mut List<Proof>,
+) -> Result<(), Memory>
+    requires some { 1 ≤ length pcrs.now }
+    requires few { length pcrs.now ≤ 24 }
+    requires fits { HasState bank (length pcrs.now) proof.now }
+    requires all_fit { All (HasState bank (length pcrs.now)) list.old }
+    ensures puts { OnOk result (list.new ≡ put same_values list.old (next_of bank pcrs.now cut proof.now number (map spelled records.now))) }
+    ensures all_fit { OnOk result (All (HasState bank (length pcrs.now)) list.new) }
+{
+    let values = next_values(alloc, bank, pcrs, proof.values.as_slice(), records)?;
+    if has_values(list.as_slice(), &values) {
+        return Ok(());
+    }
+    let choice = next_choice(alloc, proof.choice.as_slice(), number)?;
+    list.push(Proof {
+        pcrs: proof.pcrs,
+        cut,
+        choice,
+        values,
+    })
+}
+
+/// Puts a copy of the proof to the list, unless one with its values is there.
+fn put_copy(alloc: Global, list: &mut List<Proof>, proof: &Proof) -> Result<(), Memory>
+    ensures { OnOk result (list.new ≡ put same_values list.old proof.now) }
 {
     if has_values(list.as_slice(), &proof.values) {
         return Ok(());
     }
-    list.push(proof)
+    list.push(copy(alloc, proof)?)
 }
 
 /// Puts the proof after each of the variants to the list.
@@ -186,11 +194,8 @@ fn put_after(
 {
     for (number, variant) in variants.iter().enumerate() {
         let records = variant.records.as_slice();
-        match next_proof(alloc, bank, pcrs, cut, proof, number as u32, records) {
-            Ok(next) => match put(list, next) {
-                Ok(()) => {}
-                Err(_) => return Err(Stop::Memory),
-            },
+        match put_next(alloc, bank, pcrs, cut, proof, number as u32, records, list) {
+            Ok(()) => {}
             Err(_) => return Err(Stop::Memory),
         }
         if list.len() > LIMIT {
@@ -241,11 +246,8 @@ pub(crate) fn put_cut(
         return Ok(());
     }
     for proof in proofs {
-        match copy(alloc, proof) {
-            Ok(proof) => match put(list, proof) {
-                Ok(()) => {}
-                Err(_) => return Err(Stop::Memory),
-            },
+        match put_copy(alloc, list, proof) {
+            Ok(()) => {}
             Err(_) => return Err(Stop::Memory),
         }
         if list.len() > LIMIT {
