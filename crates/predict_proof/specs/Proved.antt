@@ -82,6 +82,13 @@ FailsBy bank locality first inside n q (errors.NoDigest number) = (number ≡ n)
 FailsBy bank locality first inside n q (errors.Differs number pcr reached) =
     (number ≡ n) × HasCut first inside q × HasChoice inside q × HasDigests bank inside q × FirstDiffers (held_by bank locality inside q) (pcrs_of q.pcrs) q.values pcr reached
 
+-- the number that an error names
+abbrev pub number_of : CheckError → ℕ
+number_of (errors.Cut number) = number
+number_of (errors.Choice number) = number
+number_of (errors.NoDigest number) = number
+number_of (errors.Differs number pcr reached) = number
+
 -- the first member of the list that isn't proved fails so
 pub record FailsFirst (bank : Bank) (locality : ℕ) (window : Window) (tree : List PlainComponent) (list : List Proof) (error : CheckError) : Type 0 where
   pub before : List Proof

@@ -25,6 +25,22 @@ pub enum CheckError {
     },
 }
 
+impl CheckError {
+    ghost use Rattle.predict_proof.specs.Proved.{number_of};
+
+    /// The number of the member that isn't proved.
+    pub fn number(&self) -> u32
+        ensures { result ≡ number_of self.now }
+    {
+        match self {
+            CheckError::Cut(number) => *number,
+            CheckError::Choice(number) => *number,
+            CheckError::NoDigest(number) => *number,
+            CheckError::Differs { number, .. } => *number,
+        }
+    }
+}
+
 /// Why a text is no proof file.
 #[derive(Clone, Copy, Debug, PartialEq, Eq)]
 pub enum ProofError {

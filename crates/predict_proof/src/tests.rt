@@ -89,15 +89,14 @@ fn proved(alloc: Global, tree: &str, location: &str, mask: u32) -> Result<String
 
 /// What is wrong with a list.
 fn told(alloc: Global, error: &CheckError) -> Result<String, Fail> {
+    let number = error.number();
     match error {
-        CheckError::Cut(number) => Ok(format!(in alloc; "{number}: cut")?),
-        CheckError::Choice(number) => Ok(format!(in alloc; "{number}: choice")?),
-        CheckError::NoDigest(number) => Ok(format!(in alloc; "{number}: no digest")?),
-        CheckError::Differs {
-            number,
-            pcr,
-            reached,
-        } => Ok(format!(in alloc; "{number}: {pcr} is {reached}")?),
+        CheckError::Cut(_) => Ok(format!(in alloc; "{number}: cut")?),
+        CheckError::Choice(_) => Ok(format!(in alloc; "{number}: choice")?),
+        CheckError::NoDigest(_) => Ok(format!(in alloc; "{number}: no digest")?),
+        CheckError::Differs { pcr, reached, .. } => {
+            Ok(format!(in alloc; "{number}: {pcr} is {reached}")?)
+        }
     }
 }
 
