@@ -1,12 +1,15 @@
 -- Members that are told apart by a view of them: of those with one view the first is kept.
-use Rattle.std.proofs.Common.{◌≡◌, Bool, true, cond, ◌||◌, List, [], ◌∷◌, ◌++◌, map, refl, sym, ap, ◌∙◌, inl, inr}
-use Rattle.std.specs.List.{list_any, flat_map}
-use Rattle.std.proofs.lemmas.Bool.{cases_Bool, or_cases, or_left, or_right, false≢true}
+use Rattle.std.proofs.Common.{◌≡◌, Bool, true, false, cond, ◌||◌, List, [], ◌∷◌, ◌++◌, map, Some, None, refl, sym, ap, ◌∙◌, subst, inl, inr, append_assoc}
+use Rattle.std.specs.Prelude.{find, ◌⊎◌}
+use Rattle.std.specs.List.{All, list_any, flat_map}
+use Rattle.std.specs.Option.{option_or}
+use Rattle.std.proofs.lemmas.Bool.{cases_Bool, or_cases, or_left, or_parts, or_right, false≢true, false_from_ne_true}
 use Rattle.std.proofs.lemmas.List.{append-nil, map-append}
 use Rattle.std.proofs.lemmas.List.Concat.{flat_map-append}
-use Rattle.record_match.proofs.Searches.{any-append}
+use Rattle.std.proofs.lemmas.List.Elements.{All-nil, All-push, All-weaker}
+use Rattle.record_match.proofs.Searches.{any-append, find-append}
 use Rattle.record_match.proofs.Plainly.{list_any-map}
-use Rattle.predictor.specs.Distinct.{put_all, distinct}
+use Rattle.predictor.specs.Distinct.{put, put_all, distinct}
 use Rattle.predictor.proofs.Repeats.{Tells, all_put-append, all_put_there, put_again, put_viewed}
 
 abbrev pub by_view : {A C : Type 0} → (A → C) → (C → C → Bool) → A → A → Bool
@@ -98,3 +101,69 @@ module _ {A B C D : Type 0} (view : A → C) (eq : C → C → Bool) (t : Tells 
 
   pub firsts_early : (xs : List A) → distinct same_b (flat_map f (distinct same xs)) ≡ distinct same_b (flat_map f xs)
   firsts_early xs = sym (early [] xs)
+
+-- ---- what is kept is the first with its view
+
+none_found : {A : Type 0} (test : A → Bool) (xs : List A) → list_any test xs ≡ false → find test xs ≡ None
+none_found test [] h = refl
+none_found test (x ∷ xs) h =
+    let both = or_parts (test x) (list_any test xs) h in
+    ap (λ b. cond b (Some x) (find test xs)) both.0 ∙ none_found test xs both.1
+
+found_still : {A : Type 0} (test : A → Bool) (xs ys : List A) (x : A) → find test xs ≡ Some x → find test (xs ++ ys) ≡ Some x
+found_still test xs ys x h = find-append test xs ys ∙ ap (λ o. option_or o (find test ys)) h
+
+module _ {A C : Type 0} (view : A → C) (eq : C → C → Bool) (t : Tells eq) where
+  abbrev alike : A → A → Bool
+  alike = by_view view eq
+
+  -- each is the first of those that were seen, and each view that was seen is there
+  record Keeps (seen list : List A) : Type 0 where
+    firsts : All (λ q. find (alike q) seen ≡ Some q) list
+    views : (y : A) → list_any (alike y) seen ≡ true → list_any (alike y) list ≡ true
+
+  seen_still : (seen list : List A) (x : A) → Keeps seen list → All (λ q. find (alike q) (seen ++ x ∷ []) ≡ Some q) list
+  seen_still seen list x k = All-weaker (λ q. find (alike q) seen ≡ Some q) (λ q. find (alike q) (seen ++ x ∷ []) ≡ Some q) (λ q h. found_still (alike q) seen (x ∷ []) q h) list k.firsts
+
+  seen_or : (seen : List A) (x y : A) → list_any (alike y) (seen ++ x ∷ []) ≡ true → (list_any (alike y) seen ≡ true) ⊎ (view y ≡ view x)
+  seen_or seen x y h =
+      elim (or_cases (list_any (alike y) seen) (list_any (alike y) (x ∷ [])) (sym (any-append (alike y) seen (x ∷ [])) ∙ h)) [
+        | inl before ↦ inl before
+        | inr last ↦ elim (or_cases (alike y x) false last) [ inl same ↦ inr (t.equal (view y) (view x) same) | inr never ↦ absurd (false≢true never) ]
+      ]
+
+  keeps_there : (seen list : List A) (x : A) → Keeps seen list → list_any (alike x) list ≡ true → Keeps (seen ++ x ∷ []) list
+  keeps_there seen list x k there = record {
+    firsts = seen_still seen list x k;
+    views = λ y h. elim (seen_or seen x y h) [ inl before ↦ k.views y before | inr same ↦ ap (λ v. list_any (λ q. eq v (view q)) list) same ∙ there ];
+  }
+
+  keeps_new : (seen list : List A) (x : A) → Keeps seen list → list_any (alike x) list ≡ false → Keeps (seen ++ x ∷ []) (list ++ x ∷ [])
+  keeps_new seen list x k absent =
+      let unseen : list_any (alike x) seen ≡ false = false_from_ne_true (list_any (alike x) seen) (λ h. false≢true (sym absent ∙ k.views x h)) in
+      let found : find (alike x) (seen ++ x ∷ []) ≡ Some x =
+      find-append (alike x) seen (x ∷ []) ∙ ap (λ o. option_or o (find (alike x) (x ∷ []))) (none_found (alike x) seen unseen) ∙ ap (λ b. cond b (Some x) None) (t.itself (view x)) in
+      record {
+        firsts = All-push (λ q. find (alike q) (seen ++ x ∷ []) ≡ Some q) list x (seen_still seen list x k) found;
+        views = λ y h.
+            any-append (alike y) list (x ∷ []) ∙ elim (seen_or seen x y h) [
+              | inl before ↦ or_left (list_any (alike y) list) (list_any (alike y) (x ∷ [])) (k.views y before)
+              | inr same ↦ or_right (list_any (alike y) list) (list_any (alike y) (x ∷ [])) (or_left (alike y x) false (ap (λ v. eq v (view x)) same ∙ t.itself (view x)))
+            ];
+      }
+
+  keeps_all : (seen list xs : List A) → Keeps seen list → Keeps (seen ++ xs) (put_all alike list xs)
+  keeps_all seen list [] k = subst (λ s. Keeps s list) (sym (append-nil seen)) k
+  keeps_all seen list (x ∷ xs) k =
+      let whole : (seen ++ x ∷ []) ++ xs ≡ seen ++ (x ∷ xs) = append_assoc seen (x ∷ []) xs in
+      elim (cases_Bool (list_any (alike x) list)) [
+        | inl there ↦
+            subst (λ s. Keeps s (put_all alike (put alike list x) xs)) whole (subst (λ l. Keeps ((seen ++ x ∷ []) ++ xs) (put_all alike l xs)) (sym (put_again alike list x there))
+            (keeps_all (seen ++ x ∷ []) list xs (keeps_there seen list x k there)))
+        | inr absent ↦
+            subst (λ s. Keeps s (put_all alike (put alike list x) xs)) whole (subst (λ l. Keeps ((seen ++ x ∷ []) ++ xs) (put_all alike l xs)) (sym (ap (λ b. cond b list (list ++ x ∷ [])) absent))
+            (keeps_all (seen ++ x ∷ []) (list ++ x ∷ []) xs (keeps_new seen list x k absent)))
+      ]
+
+  pub firsts_kept : (xs : List A) → All (λ q. find (alike q) xs ≡ Some q) (distinct alike xs)
+  firsts_kept xs = (keeps_all [] [] xs (record { firsts = All-nil (λ q. find (alike q) [] ≡ Some q); views = λ y h. absurd (false≢true h) })).firsts

@@ -1,5 +1,6 @@
 -- The proofs of what is foreseen: for each state the first one.
-use Rattle.std.specs.Prelude.{ℕ, Bool, List, map, take}
+use Rattle.std.specs.Prelude.{◌≡◌, ℕ, Bool, List, map, take, find, Some}
+use Rattle.std.specs.List.{flat_map}
 use Rattle.hash_bank.specs.declared.bank.Bank.{Bank}
 use Rattle.component_tree.specs.PlainTree.{PlainComponent}
 use Rattle.policy_digest.specs.Mask.{pcrs_of}
@@ -23,8 +24,16 @@ proofs_at bank locality mask pcrs cut components = map (proof_of_choice bank loc
 abbrev pub same_values : Proof → Proof → Bool
 same_values a b = values_eq a.values b.values
 
--- one for each cut of the window, in order, and each choice of the components before it, in order; those with values
--- that came before are dropped
+-- one for each cut of the window, in order, and each choice of the components before it, in order
+abbrev pub all_proofs : Bank → ℕ → ℕ → Window → List PlainComponent → List Proof
+all_proofs bank locality mask window tree =
+    flat_map (λ k. proofs_at bank locality mask (pcrs_of mask) k (take k (inside_of window.end tree))) (cuts_between (first_cut window tree) (last_cut window tree))
+
+-- the first of all with its values
+abbrev pub IsFirstOf : List Proof → Proof → Type 0
+IsFirstOf proofs q = find (same_values q) proofs ≡ Some q
+
+-- those with values that came before are dropped
 abbrev pub first_proofs : Bank → ℕ → ℕ → Window → List PlainComponent → List Proof
 first_proofs bank locality mask window tree =
     over_cuts same_values (λ k. proofs_at bank locality mask (pcrs_of mask) k (take k (inside_of window.end tree))) (cuts_between (first_cut window tree) (last_cut window tree))

@@ -11,9 +11,12 @@ use Rattle.predictor.specs.Cuts.{inside_of}
 use Rattle.predictor.specs.States.{states_after}
 use Rattle.predictor.specs.Foreseen.{Answers, foreseen_by, foreseen_joint, lacking_in_any, Refuses}
 use Rattle.predictor.proofs.MaskLists.{some_listed}
+use Rattle.predictor.proofs.Repeats.{values_tell}
 use Rattle.predictor.proofs.WindowLemmas.{joint_lacks, joint_has}
 use Rattle.predict_proof.specs.Proved.{HasShape, Proved}
-use Rattle.predict_proof.specs.Proving.{values_in}
+use Rattle.predict_proof.specs.declared.proof.Proof.{Proof}
+use Rattle.predict_proof.specs.Proving.{all_proofs, values_in, IsFirstOf}
+use Rattle.predict_proof.proofs.Firsts.{firsts_kept}
 use Rattle.predict_proof.proofs.AllProved.{are_first, first_proved, first_shaped}
 use Rattle.predict_proof.proofs.proving.prove.Goals as goal
 
@@ -59,3 +62,12 @@ returns-clause-proved c =
     IfOk-weaker c.spread.result _ _
     (λ list h. subst (All (Proved c.args.bank c.args.locality c.args.window.now tree)) (sym (are_first c.args.bank c.args.locality c.args.pcrs c.args.window.now tree inside c.inside-first.result c.as_slice-2.result.now list c.components_inside-components.ensures.value c.inside-first.ensures listed_2 h))
     (first_proved c.args.bank c.args.locality c.args.pcrs c.args.window.now tree c.requires.in_range none)) c.spread.ensures.proofs
+
+pub returns-clause-first : goal.returns-clause-first
+returns-clause-first c =
+    let tree = plain c.args.tree.now.components in
+    let listed : c.as_slice-2.result.now ≡ pcrs_of c.args.pcrs = c.as_slice-2.ensures ∙ c.in_ok-list.ensures.value in
+    let all = all_proofs c.args.bank c.args.locality c.args.pcrs c.args.window.now tree in
+    IfOk-weaker c.spread.result _ _
+    (λ list h. subst (All (IsFirstOf all)) (sym (are_first c.args.bank c.args.locality c.args.pcrs c.args.window.now tree c.components_inside-components.result.now c.inside-first.result c.as_slice-2.result.now list c.components_inside-components.ensures.value c.inside-first.ensures listed h))
+    (firsts_kept (λ (q : Proof). q.values) values_eq values_tell all)) c.spread.ensures.proofs
