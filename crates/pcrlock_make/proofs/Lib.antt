@@ -1,0 +1,4 @@
+pub mod Done
+pub mod Lacking
+pub mod Removed
+pub mod Stops
