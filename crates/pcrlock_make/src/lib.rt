@@ -13,3 +13,6 @@ pub use crate::firmware_lock::lock_firmware;
 pub use crate::firmware_unlock::unlock_firmware;
 pub use crate::kind::FirmwareKind;
 pub use crate::raw_lock::lock_raw;
+
+#[cfg(test)]
+mod tests;
