@@ -1,0 +1,5 @@
+pub mod Removed
+pub mod Sends
+pub mod Lists
+pub mod Seals
+pub mod Drawn

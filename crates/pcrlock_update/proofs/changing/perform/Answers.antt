@@ -1,0 +1,13 @@
+use Rattle.pcrlock_line.proofs.Composed.{stops, on_tpm, on_files}
+use Rattle.pcrlock_update.proofs.changing.perform.Goals as goal
+
+pub returns-in-Tpm-clause-causes : goal.returns-in-Tpm-clause-causes
+returns-in-Tpm-clause-causes g c =
+    let F = g.F.Files.faults in let T = g.T.Tpm.faults in
+    on_tpm (F c.args.files.now) 0 0 (T c.args.tpm.now) (T c.send.new.tpm) c.send.result c.send.ensures.causes
+
+pub returns-in-Err-clause-causes : goal.returns-in-Err-clause-causes
+returns-in-Err-clause-causes g c =
+    let F = g.F.Files.faults in let T = g.T.Tpm.faults in
+    stops (F c.args.files.now, 0, T c.args.tpm.now, 0) (F c.replace_file.new.files, 0, T c.args.tpm.now, 0) c.replace_file.result c.in-Err.stop
+    (on_files 0 (T c.args.tpm.now) 0 (F c.args.files.now) (F c.replace_file.new.files) c.replace_file.result c.replace_file.ensures.causes) c.in-Err.is

@@ -1,0 +1,9 @@
+pub mod PolicyAt
+pub mod Ended
+pub mod RemovePolicy
+pub mod Changes
+pub mod Sending
+pub mod Sealed
+pub mod NewPolicy
+pub mod Update
+pub mod Standing

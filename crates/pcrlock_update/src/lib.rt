@@ -1,0 +1,25 @@
+//! The policy in force, as commands read it from its file; the changes by which a table is put in force,
+//! under a new index or one that stands; and the command that takes the policy away, `remove-policy`.
+#![tactic(auto)]
+
+mod building;
+mod change;
+mod changing;
+mod lines;
+mod making;
+mod policy;
+mod refusal;
+mod removing;
+mod replacing;
+mod sealing;
+mod standing;
+#[cfg(test)]
+mod tests;
+mod updating;
+
+pub use crate::making::make_new_policy;
+pub use crate::policy::policy_at;
+pub use crate::refusal::PolicyRefusal;
+pub use crate::removing::remove_policy;
+pub use crate::replacing::{update_policy, update_with_pin};
+pub use crate::standing::test_standing;
