@@ -9,7 +9,8 @@ use Rattle.pcrlock_line.specs.declared.stop.Stop.{Stop}
 use Rattle.pcrlock_line.specs.Machine.{Live}
 use Rattle.pcrlock_line.specs.Outcome.{Outcome, Gives}
 use Rattle.pcrlock_line.specs.Stopped.{StandsAmong}
-use Rattle.pcrlock_update.specs.NewPolicy.{new_with, new_line_from, pin_text}
+use Rattle.pcrlock_words.specs.Texts.{pin_text}
+use Rattle.pcrlock_update.specs.NewPolicy.{new_with, new_line_from}
 
 -- the next random word is the pin, and the rest is to come
 drawn_by : (P : Outcome → Type 0) (text whole path : List ℕ) (old : Option ℕ) (stands : Bool) (index : ℕ) (table : Table) (pin : List ℕ) (draws rest : List (List ℕ)) (m : Live)

@@ -21,7 +21,6 @@ use Rattle.pcrlock_line.specs.Outcome.{Gives}
 use Rattle.pcrlock_line.specs.Running.{Keeps}
 use Rattle.pcrlock_line.specs.Stopped.{StandsAt, StandsAmong}
 use Rattle.pcrlock_line.proofs.Standing.{holds_same}
-use Rattle.pcrlock_update.specs.Ended.{EndsSo, stops_of}
 use Rattle.pcrlock_update.specs.PolicyAt.{policy_by, policy_of, policy_limit}
 use Rattle.pcrlock_update.specs.RemovePolicy.{has_policy, shows_policy, without_index, without_pin, removed_line, removal_line, removal_of, remove_policy_line}
 
@@ -87,12 +86,12 @@ not_stored held stored path policy m e (inr (inr k)) = inr (inr (inl (standing h
 -- the outcome where a policy was read
 pub told_read : (held : Option FileMap) (stored : Option Stored) (words : Option (List (List ℕ))) (state path : List ℕ) (policy : Policy) (m : Machine) (reply : Reply)
     → policy_of m.files path ≡ Ok (Some policy) → Gives held stored words reply (removal_line state path policy m)
-    → EndsSo held stored words m (Ok reply) (remove_policy_line state path m)
+    → Gives held stored words reply (remove_policy_line state path m)
 told_read held stored words state path policy m reply e h =
-    subst (λ (x : Result (Option Policy) Answer). EndsSo held stored words m (Ok reply) (removal_of state path x m)) (sym e) h
+    subst (λ (x : Result (Option Policy) Answer). Gives held stored words reply (removal_of state path x m)) (sym e) h
 
 pub stops_read : (held : Option FileMap) (stored : Option Stored) (state path : List ℕ) (policy : Policy) (m : Machine)
     → policy_of m.files path ≡ Ok (Some policy) → StandsAmong held stored (removal_line state path policy m).stops
-    → StandsAmong held stored (stops_of m (remove_policy_line state path m))
+    → StandsAmong held stored (remove_policy_line state path m).stops
 stops_read held stored state path policy m e h =
-    subst (λ (x : Result (Option Policy) Answer). StandsAmong held stored (stops_of m (removal_of state path x m))) (sym e) h
+    subst (λ (x : Result (Option Policy) Answer). StandsAmong held stored (removal_of state path x m).stops) (sym e) h

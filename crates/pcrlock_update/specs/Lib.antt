@@ -1,5 +1,4 @@
 pub mod PolicyAt
-pub mod Ended
 pub mod RemovePolicy
 pub mod Changes
 pub mod Sending

@@ -1,6 +1,5 @@
 -- A policy is put in force where no index, or an unwritten one, stands under its handle.
 use Rattle.std.specs.Prelude.{ℕ, Bool, true, false, List, [], ◌∷◌, ◌++◌, codes, Option, None, Some}
-use Rattle.hex.specs.Hex.{encode_lower}
 use Rattle.hash_bank.specs.HashedString.{HashedString}
 use Rattle.nv_index.specs.Attributes.{content_size, defined_attributes}
 use Rattle.nv_index.specs.declared.index.NvPublic.{NvPublic}
@@ -14,7 +13,7 @@ use Rattle.policy_file.specs.declared.policy.Policy.{Policy}
 use Rattle.policy_file.specs.PolicyText.{policy_text}
 use Rattle.pcrlock_words.specs.declared.answer.Answer.{Answer}
 use Rattle.pcrlock_words.specs.declared.answer.Answer.TheVariants as said
-use Rattle.pcrlock_words.specs.Texts.{line_end}
+use Rattle.pcrlock_words.specs.Texts.{line_end, pin_text}
 use Rattle.pcrlock_line.specs.Machine.{Live, machine}
 use Rattle.pcrlock_line.specs.Outcome.{Ending, Fine, Refused, Outcome}
 use Rattle.pcrlock_update.specs.Changes.{Made, changes_made, made_then}
@@ -62,10 +61,6 @@ new_made path old stands index pin table m =
     (pin_made index pin (λ object. changes_made path (force_changes old index pin table object)))
 
 -- ---- the end
-
--- the line of a pin that was drawn
-unfoldable pub pin_text : List ℕ → List ℕ
-pin_text pin = codes "pin " ++ encode_lower pin ++ line_end
 
 unfoldable pub made_text : List ℕ
 made_text = codes "made" ++ line_end

@@ -13,12 +13,11 @@ use Rattle.tpm_model.specs.declared.response.Refusal.TheVariants as refusal
 use Rattle.tpm_model.specs.IndexCommands.{nv_undefine}
 use Rattle.tpm_model.specs.ObjectCommands.{evict}
 use Rattle.pcrlock_words.specs.declared.answer.Answer.{Answer}
+use Rattle.pcrlock_words.specs.declared.answer.Answer.TheVariants as said
 use Rattle.pcrlock_words.specs.Texts.{line_end}
 use Rattle.pcrlock_line.specs.Begun.{by_device}
 use Rattle.pcrlock_line.specs.Machine.{Machine, Live, machine}
 use Rattle.pcrlock_line.specs.Outcome.{Outcome, Fine, refused_line}
-use Rattle.pcrlock_update.specs.declared.refusal.PolicyRefusal.TheVariants as unmade
-use Rattle.pcrlock_update.specs.Ended.{Ended}
 use Rattle.pcrlock_update.specs.PolicyAt.{policy_of}
 
 -- the line that is printed
@@ -79,11 +78,11 @@ abbrev pub removal_line : List ℕ → List ℕ → Policy → Machine → Outco
 removal_line state path policy m = by_device m.device state m (removed_line path policy)
 
 -- by what the policy file gave
-abbrev pub removal_of : List ℕ → List ℕ → Result (Option Policy) Answer → Machine → Ended
-removal_of state path (Ok None) m = Err (unmade.NoPolicy path)
-removal_of state path (Ok (Some policy)) m = Ok (removal_line state path policy m)
-removal_of state path (Err answer) m = Ok (refused_line answer m)
+abbrev pub removal_of : List ℕ → List ℕ → Result (Option Policy) Answer → Machine → Outcome
+removal_of state path (Ok None) m = refused_line (said.NoPolicy path) m
+removal_of state path (Ok (Some policy)) m = removal_line state path policy m
+removal_of state path (Err answer) m = refused_line answer m
 
 -- `remove-policy` over the policy file at the path, and what is stored in the state file
-abbrev pub remove_policy_line : List ℕ → List ℕ → Machine → Ended
+abbrev pub remove_policy_line : List ℕ → List ℕ → Machine → Outcome
 remove_policy_line state path m = removal_of state path (policy_of m.files path) m

@@ -11,8 +11,8 @@ use Rattle.policy_digest.specs.declared.table.Table.{Table}
 use Rattle.policy_digest.specs.Pin.{pin_policy_of}
 use Rattle.policy_digest.specs.Table.{values_eq}
 use Rattle.policy_file.specs.declared.policy.Policy.{Policy}
-use Rattle.pcrlock_update.specs.declared.refusal.PolicyRefusal.{PolicyRefusal}
-use Rattle.pcrlock_update.specs.declared.refusal.PolicyRefusal.TheVariants as unmade
+use Rattle.pcrlock_words.specs.declared.answer.Answer.{Answer}
+use Rattle.pcrlock_words.specs.declared.answer.Answer.TheVariants as said
 use Rattle.pcrlock_update.specs.NewPolicy.{content_for}
 
 -- whether two tables are the same: one bank, and the same lists of values for the same PCRs, in order
@@ -44,13 +44,13 @@ is_unchanged found force public held table =
     not force && file_has public.policy found && file_holds table found && bytes_eq held (content_for table)
 
 -- a pin that was given has to be that of the index
-abbrev pub with_given : Option (List ℕ) → List ℕ → Bool → Result Bool PolicyRefusal
+abbrev pub with_given : Option (List ℕ) → List ℕ → Bool → Result Bool Answer
 with_given None digest same = Ok same
-with_given (Some pin) digest same = if bytes_eq (pin_policy_of pin) digest then Ok same else Err (unmade.PinRefused (pin_policy_of pin) digest)
+with_given (Some pin) digest same = if bytes_eq (pin_policy_of pin) digest then Ok same else Err (said.PinRefused (pin_policy_of pin) digest)
 
 -- the index has to be the policy file's, or the given pin's; then whether nothing has to be changed
-abbrev pub standing_of : Option Policy → Option (List ℕ) → Bool → NvPublic → List ℕ → Table → Result Bool PolicyRefusal
+abbrev pub standing_of : Option Policy → Option (List ℕ) → Bool → NvPublic → List ℕ → Table → Result Bool Answer
 standing_of found pin force public held table =
     if file_has public.policy found || pin_has public.policy pin
     then with_given pin public.policy (is_unchanged found force public held table)
-    else Err (unmade.IndexTaken public.handle (index_name_of public))
+    else Err (said.IndexTaken public.handle (index_name_of public))

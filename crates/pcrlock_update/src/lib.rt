@@ -8,7 +8,6 @@ mod changing;
 mod lines;
 mod making;
 mod policy;
-mod refusal;
 mod removing;
 mod replacing;
 mod sealing;
@@ -19,7 +18,6 @@ mod updating;
 
 pub use crate::making::make_new_policy;
 pub use crate::policy::policy_at;
-pub use crate::refusal::PolicyRefusal;
 pub use crate::removing::remove_policy;
 pub use crate::replacing::{update_policy, update_with_pin};
 pub use crate::standing::test_standing;

@@ -1,23 +1,16 @@
 //! The lines that commands on policies print.
 ghost use Rattle.std.specs.Prelude.{◌≡◌, ◌++◌, IfOk};
-ghost use Rattle.pcrlock_update.specs.NewPolicy.{made_text as text_of_made, pin_text as text_of_pin};
+ghost use Rattle.pcrlock_words.specs.Texts.{pin_text};
+ghost use Rattle.pcrlock_update.specs.NewPolicy.{made_text as text_of_made};
 ghost use Rattle.pcrlock_update.specs.Update.{updated_text as text_of_update};
 
+use pcrlock_words::pin_line;
 use pl_base::Memory;
 use std::alloc::Global;
 
-/// The line of a pin that was drawn.
-#[tactic(auto, unfolding(crate::specs::NewPolicy::pin_text))]
-fn pin_line(alloc: Global, pin: &[u8; 32]) -> Result<Vec<u8>, Memory>
-    ensures { IfOk result (λ line. line.items ≡ text_of_pin pin.now) }
-{
-    let pin = hex::encode(alloc, pin.as_slice())?;
-    Ok(format!(in alloc; "pin {pin}\n")?.into_bytes())
-}
-
 /// A text with the line of a pin behind it.
 pub(crate) fn with_pin(alloc: Global, text: Vec<u8>, pin: &[u8; 32]) -> Result<Vec<u8>, Memory>
-    ensures { IfOk result (λ whole. whole.items ≡ text.items ++ text_of_pin pin.now) }
+    ensures { IfOk result (λ whole. whole.items ≡ text.items ++ pin_text pin.now) }
 {
     let mut text = text;
     let line = pin_line(alloc, pin)?;

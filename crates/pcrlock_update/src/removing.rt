@@ -12,13 +12,12 @@ ghost use Rattle.pcrlock_line.specs.Machine.{Machine, Live, Tells, machine};
 ghost use Rattle.pcrlock_line.specs.Outcome.{Gives};
 ghost use Rattle.pcrlock_line.specs.Running.{Runs, Keeps};
 ghost use Rattle.pcrlock_line.specs.Stopped.{StandsAmong};
-ghost use Rattle.pcrlock_update.specs.Ended.{EndsSo, stops_of};
 ghost use Rattle.pcrlock_update.specs.PolicyAt.{policy_of};
 ghost use Rattle.pcrlock_update.specs.RemovePolicy.{has_policy, shows_policy as shows, is_done as is_done_of, is_gone as is_gone_of, without_index, without_pin, removed_text as text_of_removal, removed_line, removal_line, remove_policy_line};
 
 use crate::policy::policy_at;
-use crate::refusal::PolicyRefusal;
 use pcrlock_line::{Reply, Stop, ask, ready};
+use pcrlock_words::Answer;
 use pl_base::{Files, Memory, Name, RemoveError};
 use policy_file::Policy;
 use std::alloc::Global;
@@ -224,11 +223,11 @@ fn remove_read<F: Files, T: Tpm>(
     }
 }
 
-/// The refusal where no policy file stands at the path.
-fn no_policy(alloc: Global, path: &Name) -> Result<PolicyRefusal, Memory>
-    ensures { IfOk result (λ refusal. refusal ≡ PolicyRefusal.NoPolicy path.now) }
+/// The answer where no policy file stands at the path.
+fn no_policy(alloc: Global, path: &Name) -> Result<Answer, Memory>
+    ensures { IfOk result (λ answer. answer ≡ Answer.NoPolicy path.now) }
 {
-    Ok(PolicyRefusal::NoPolicy(path.copy(alloc)?))
+    Ok(Answer::NoPolicy(path.copy(alloc)?))
 }
 
 /// Takes away the policy that the file at the path states: the index under its handle, where that has
@@ -252,23 +251,23 @@ pub fn remove_policy<F: Files, T: Tpm>(
     tpm: &mut T,
     state: &Name,
     path: &Name,
-) -> Result<Result<Reply, PolicyRefusal>, Stop>
+) -> Result<Reply, Stop>
     ensures causes { HasCauses (F.faults files.old, 0, T.faults tpm.old, 0) (F.faults files.new, 0, T.faults tpm.new, 0) result }
     ensures told { (words : Option (Sequence (Sequence ℕ))) (m : Machine) → Tells (F.held files.old) (T.stored tpm.old) words m
-        → IfOk result (λ ended. EndsSo (F.held files.new) (T.stored tpm.new) words m ended (remove_policy_line state.now path.now m)) }
+        → IfOk result (λ reply. Gives (F.held files.new) (T.stored tpm.new) words reply (remove_policy_line state.now path.now m)) }
     ensures stops { (words : Option (Sequence (Sequence ℕ))) (m : Machine) → Tells (F.held files.old) (T.stored tpm.old) words m
-        → IfErr result (λ _. StandsAmong (F.held files.new) (T.stored tpm.new) (stops_of m (remove_policy_line state.now path.now m))) }
+        → IfErr result (λ _. StandsAmong (F.held files.new) (T.stored tpm.new) (remove_policy_line state.now path.now m).stops) }
 {
     match policy_at(alloc, files, path) {
         Ok(Ok(Some(policy))) => match remove_read(alloc, files, tpm, state, path, &policy) {
-            Ok(reply) => Ok(Ok(reply)),
+            Ok(reply) => Ok(reply),
             Err(stop) => Err(stop),
         },
         Ok(Ok(None)) => match no_policy(alloc, path) {
-            Ok(refusal) => Ok(Err(refusal)),
+            Ok(answer) => Ok(Reply::Refused(answer)),
             Err(_) => Err(Stop::Memory),
         },
-        Ok(Err(answer)) => Ok(Ok(Reply::Refused(answer))),
+        Ok(Err(answer)) => Ok(Reply::Refused(answer)),
         Err(stop) => Err(stop),
     }
 }

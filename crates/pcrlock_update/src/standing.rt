@@ -7,9 +7,9 @@ ghost use Rattle.policy_digest.specs.Table.{valid_table, values_eq};
 ghost use Rattle.pcrlock_update.specs.Standing.{file_has as file_has_digest, file_holds as file_holds_table, is_unchanged as nothing_changes, pin_has as pin_has_policy, same_row, same_table, standing_of, with_given as with_given_pin};
 
 use crate::building::content;
-use crate::refusal::PolicyRefusal;
 use hash_bank::Digest;
 use nv_index::{NvPublic, index_name};
+use pcrlock_words::Answer;
 use pl_base::{Memory, Small};
 use policy_digest::{Row, Table, Values, pin_policy};
 use policy_file::Policy;
@@ -125,7 +125,7 @@ fn is_unchanged(
 }
 
 /// Tests a pin that was given.
-fn with_given(pin: Option<&[u8; 32]>, index: &Digest, same: bool) -> Result<bool, PolicyRefusal>
+fn with_given(pin: Option<&[u8; 32]>, index: &Digest, same: bool) -> Result<bool, Answer>
     ensures { result ≡ with_given_pin (option_copied pin.entry) index.now same }
 {
     match pin {
@@ -134,7 +134,7 @@ fn with_given(pin: Option<&[u8; 32]>, index: &Digest, same: bool) -> Result<bool
             if is_same_digest(&given, index) {
                 Ok(same)
             } else {
-                Err(PolicyRefusal::PinRefused {
+                Err(Answer::PinRefused {
                     given,
                     index: *index,
                 })
@@ -158,7 +158,7 @@ pub fn test_standing(
     public: &NvPublic,
     held: &Small,
     table: &Table,
-) -> Result<Result<bool, PolicyRefusal>, Memory>
+) -> Result<Result<bool, Answer>, Memory>
     requires { valid_table table.now ≡ true }
     ensures { IfOk result (λ stands. stands ≡ standing_of (option_copied found.entry) (option_copied pin.entry) force public.now held.now table.now) }
 {
@@ -166,7 +166,7 @@ pub fn test_standing(
     if file_has(&public.policy, found) || pin_has(&public.policy, pin) {
         Ok(with_given(pin, &public.policy, same))
     } else {
-        Ok(Err(PolicyRefusal::IndexTaken {
+        Ok(Err(Answer::IndexTaken {
             handle: public.handle,
             name: index_name(public),
         }))

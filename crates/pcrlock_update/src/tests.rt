@@ -1,11 +1,11 @@
 //! A policy that is made, updated and removed with ample memory; what stands after a fault.
 use crate::{
-    PolicyRefusal, make_new_policy, policy_at, remove_policy, test_standing, update_policy,
-    update_with_pin,
+    make_new_policy, policy_at, remove_policy, test_standing, update_policy, update_with_pin,
 };
 use hash_bank::{Bank, Banks, Digest};
 use nv_index::NvPublic;
 use pcrlock_line::{Reply, Stop};
+use pcrlock_words::Answer;
 use pl_base::{Entropy, Fail as Planned, Files, List, ListEntropy, MemFiles, Name, Small};
 use policy_digest::{Row, Table, Values, pin_policy};
 use policy_file::Policy;
@@ -65,6 +65,7 @@ fn word(reply: &Result<Reply, Stop>) -> &'static str {
         Ok(Reply::Fine(text)) if text.as_slice() == &b"updated\n"[..] => "updated",
         Ok(Reply::Fine(text)) if text.as_slice() == &b"removed\n"[..] => "removed",
         Ok(Reply::Fine(_)) => "another text",
+        Ok(Reply::Refused(Answer::NoPolicy(_))) => "no policy",
         Ok(Reply::Refused(_)) => "refused",
         Err(Stop::WriteFault) => "write fault",
         Err(_) => "stopped",
@@ -135,12 +136,7 @@ fn has_bytes(alloc: Global, files: &mut MemFiles, expected: &str) -> Result<bool
 fn remove(alloc: Global, files: &mut MemFiles, tpm: &mut SoftTpm) -> Result<&'static str, Fail> {
     let path = Name::from_text(alloc, "p")?;
     let state = Name::from_text(alloc, "s")?;
-    match remove_policy(alloc, files, tpm, &state, &path) {
-        Ok(Ok(reply)) => Ok(word(&Ok(reply))),
-        Ok(Err(PolicyRefusal::NoPolicy(_))) => Ok("no policy"),
-        Ok(Err(_)) => Ok("another refusal"),
-        Err(stop) => Ok(word(&Err(stop))),
-    }
+    Ok(word(&remove_policy(alloc, files, tpm, &state, &path)))
 }
 
 #[test]
@@ -273,8 +269,8 @@ fn tested(
     match test_standing(alloc, Some(&policy), given, force, &public, &content, &new) {
         Ok(Ok(true)) => Ok("unchanged"),
         Ok(Ok(false)) => Ok("to be changed"),
-        Ok(Err(PolicyRefusal::IndexTaken { .. })) => Ok("taken"),
-        Ok(Err(PolicyRefusal::PinRefused { .. })) => Ok("pin refused"),
+        Ok(Err(Answer::IndexTaken { .. })) => Ok("taken"),
+        Ok(Err(Answer::PinRefused { .. })) => Ok("pin refused"),
         Ok(Err(_)) => Ok("another refusal"),
         Err(_) => Ok("no memory"),
     }
