@@ -1,0 +1,4 @@
+pub mod Clients
+pub mod Racing
+pub mod Playing
+pub mod OutcomeText
