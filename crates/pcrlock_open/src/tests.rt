@@ -154,7 +154,13 @@ fn prints(alloc: Global, state: State, policy: &Policy, object: u32) -> Result<V
     if !(0x8100_0000..=0x817F_FFFF).contains(&object) {
         return Err("no object's handle")?;
     }
-    match open_bound(alloc, &mut tpm, &Name::from_text(alloc, "tpm")?, policy, object) {
+    match open_bound(
+        alloc,
+        &mut tpm,
+        &Name::from_text(alloc, "tpm")?,
+        policy,
+        object,
+    ) {
         Ok(Reply::Fine(text)) => Ok(text),
         Ok(Reply::Refused(answer)) => Ok(answer_line(alloc, &answer)?),
         Err(_) => Err("stopped")?,
@@ -181,7 +187,10 @@ fn a_bound_object_is_opened_or_refused(rt: HostRuntime) -> Result<(), Fail> {
     for (made, object, expected) in cases {
         let policy = policy(alloc, &value)?;
         let state = machine(alloc, &content(alloc, &value)?, made)?;
-        assert_eq!(rt; prints(alloc, state, &policy, object)?.as_slice(), expected.as_bytes());
+        assert_eq!(rt;
+            prints(alloc, state, &policy, object)?.as_slice(),
+            expected.as_bytes()
+        );
     }
     Ok(())
 }
