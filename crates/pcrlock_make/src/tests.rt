@@ -1,10 +1,15 @@
 //! Locks and unlocks on files in memory, against expected texts.
 use super::*;
+use component_tree::load_tree;
+use hash_bank::Bank;
+use pcr_replay::{combined, measured};
 use pcrlock_line::{Reply, Stop};
 use pcrlock_words::answer_line;
 use pl_base::{Fail, List, MemFiles, Memory, Name};
+use record_match::explain;
 use std::alloc::{AllocError, Global};
 use std::test::Fail as Failure;
+use tcg_log::{is_writable, read_log};
 
 /// What stands before records of SHA-256 alone in a firmware log.
 const SPEC_ID: &[u8] =
@@ -322,6 +327,73 @@ fn faults_are_told(rt: HostRuntime) -> Result<(), Failure> {
         assert_eq!(rt; answer.as_slice(), b"WriteFault".as_slice());
         assert_eq!(rt; files.get(first).is_some(), call == 0);
         assert!(rt; files.get(second).is_some());
+    }
+    Ok(())
+}
+
+/// A component of the separators that stand between early and late records.
+const SEPARATORS: &str =
+    "[{\"pcr\":0,\"digests\":[{\"hashAlg\":\"sha256\",\"digest\":\"df3f619804a92fdb4057192dc43dd748ea778adc52bc498ce80524c014b81119\"}]},{\"pcr\":2,\"digests\":[{\"hashAlg\":\"sha256\",\"digest\":\"df3f619804a92fdb4057192dc43dd748ea778adc52bc498ce80524c014b81119\"}]}]";
+
+/// Which variants in the folder `c` explain what a log says of a PCR.
+fn choice_of(
+    alloc: Global,
+    files: &mut MemFiles,
+    log: &[u8],
+    pcr: u8,
+) -> Result<Vec<u32>, Failure> {
+    if log.len() > 4_194_304 {
+        return Err("no log".into());
+    }
+    let log = read_log(alloc, log)?;
+    if !is_writable(&log) || pcr > 23 {
+        return Err("no writable log".into());
+    }
+    let list = combined(alloc, Some(&log), &[])?;
+    let digests = measured(alloc, list.as_slice(), pcr, Bank::Sha256)?.ok_or("no digests")?;
+    let mut folders = Vec::new(alloc);
+    folders.push(Name::from_text(alloc, "c")?)?;
+    let tree = load_tree(alloc, files, &folders)?;
+    let components = tree.components.as_slice();
+    match explain(alloc, components, pcr, Bank::Sha256, digests.as_slice()) {
+        Ok(choice) => Ok(choice.into_vec()),
+        Err(_) => Err("not explained".into()),
+    }
+}
+
+/// Two boots that are locked under variants of their own, with the separators between, are explained.
+#[test]
+fn two_locked_boots_are_explained(rt: HostRuntime) -> Result<(), Failure> {
+    let alloc = rt.alloc();
+    let first = log_of(
+        alloc,
+        &[
+            (0, ACTION, 1),
+            (0, SEPARATOR, 1),
+            (2, SEPARATOR, 1),
+            (2, ACTION, 1),
+        ],
+    )?;
+    let second = log_of(
+        alloc,
+        &[
+            (2, ACTION, 1),
+            (0, SEPARATOR, 1),
+            (2, SEPARATOR, 1),
+            (0, ACTION, 1),
+        ],
+    )?;
+    let mut files = MemFiles::new(alloc, List::new(alloc));
+    files.put("c/300-separator.pcrlock", SEPARATORS.as_bytes())?;
+    files.put("f", first.as_slice())?;
+    locks(alloc, &mut files, FirmwareKind::Code, "generated")?;
+    files.put("f", second.as_slice())?;
+    locks(alloc, &mut files, FirmwareKind::Code, "new")?;
+    for pcr in [0, 2] {
+        let early = choice_of(alloc, &mut files, first.as_slice(), pcr)?;
+        assert_eq!(rt; early.as_slice(), [0, 0, 0].as_slice());
+        let late = choice_of(alloc, &mut files, second.as_slice(), pcr)?;
+        assert_eq!(rt; late.as_slice(), [1, 0, 1].as_slice());
     }
     Ok(())
 }
