@@ -9,7 +9,7 @@ pub struct Failed;
 /// A source of random words of 32 bytes.
 pub trait Entropy {
     /// The words still to come, where they are told.
-    ghost words: { Self → Option (List (List ℕ)) };
+    ghost draws: { Self → Option (List (List ℕ)) };
 
     /// How often no word could be had.
     ghost faults: { Self → ℕ };
@@ -17,5 +17,5 @@ pub trait Entropy {
     /// The next word. A failure leaves the words as they were.
     fn fill32(&mut self) -> Result<[u8; 32], Failed>
         ensures cause { HasCause (faults self.old) (faults self.new) (result ≡ Err record {}) }
-        ensures told { (before : List (List ℕ)) → words self.old ≡ Some before → DrawLeaves before result (words self.new) };
+        ensures told { (before : List (List ℕ)) → draws self.old ≡ Some before → DrawLeaves before result (draws self.new) };
 }

@@ -50,7 +50,7 @@ impl ListEntropy {
 }
 
 impl Entropy for ListEntropy {
-    ghost words = { λ source. Some source.words };
+    ghost draws = { λ source. Some source.words };
 
     ghost faults = { λ source. source.calls.faults };
 

@@ -35,7 +35,7 @@ impl<R: rt::Files> RealEntropy<R> {
 }
 
 impl<R: rt::Files> Entropy for RealEntropy<R> {
-    ghost words = { λ _. None };
+    ghost draws = { λ _. None };
 
     ghost faults = { λ source. source.faults };
 
