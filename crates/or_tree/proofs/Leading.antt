@@ -8,14 +8,14 @@ use Rattle.or_tree.specs.Leading.{Leads}
 use Rattle.or_tree.proofs.Groups.{next_length}
 
 -- the digest above a group
-raised_at : (level : List (List ℕ)) (number : ℕ) → number < group_count level → get_or (next_level level) number [] ≡ up (group level number)
+pub raised_at : (level : List (List ℕ)) (number : ℕ) → number < group_count level → get_or (next_level level) number [] ≡ up (group level number)
 unfolding next_level
 raised_at level number inside =
     get_or-map up (map (group level) (range_with_len 0 (group_count level))) number [] [] (omega (arith, length-map-range_with_len (group level) 0 (group_count level)))
     ∙ ap up (get_or-map-range_with_len (group level) 0 (group_count level) number number [] inside (omega arith))
 
 -- a digest is one of its group
-in_group : (level : List (List ℕ)) (place : ℕ) → place < length level → Contains (group level (place / 8)) (get_or level place [])
+pub in_group : (level : List (List ℕ)) (place : ℕ) → place < length level → Contains (group level (place / 8)) (get_or level place [])
 in_group level place inside =
     let start = 8 * (place / 8) in
     let d = get_or level place [] in
