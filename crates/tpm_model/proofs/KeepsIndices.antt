@@ -170,15 +170,18 @@ keeps-nv_undefine handle s h = on (index_at handle s.indices) refl
         (omega arith)
         (λ name digest number _ agreed. passes_remove (agrees_with name digest number) s.indices place agreed)
 
--- numbers up to the counter are below the next one
-pub counted_before : (s : Parts) → HasRules s → list_all (is_before (s.write_counter + 1)) s.indices ≡ true
-counted_before s h = passes_weaker (is_counted s.write_counter) (is_before (s.write_counter + 1)) (λ x. one x.written) s.indices (indices_kept s h).counted
+-- numbers among the writes so far are below the next
+pub before_next : (most : ℕ) (xs : List Index) → list_all (is_counted most) xs ≡ true → list_all (is_before (most + 1)) xs ≡ true
+before_next most xs h = passes_weaker (is_counted most) (is_before (most + 1)) (λ x. one x.written) xs h
   where
-    one : (o : Option Written) → is_numbered_within s.write_counter o ≡ true → is_write_before (s.write_counter + 1) o ≡ true
+    one : (o : Option Written) → is_numbered_within most o ≡ true → is_write_before (most + 1) o ≡ true
     one None e = refl
     one (Some w) e =
-        let bound : w.number ≤ s.write_counter = leb-true w.number s.write_counter (and_parts (nat_le 1 w.number) (nat_le w.number s.write_counter) e).1 in
-        lt-ltb w.number (s.write_counter + 1) (omega arith)
+        let bound : w.number ≤ most = leb-true w.number most (and_parts (nat_le 1 w.number) (nat_le w.number most) e).1 in
+        lt-ltb w.number (most + 1) (omega arith)
+
+pub counted_before : (s : Parts) → HasRules s → list_all (is_before (s.write_counter + 1)) s.indices ≡ true
+counted_before s h = before_next s.write_counter s.indices (indices_kept s h).counted
 
 still_counted : (most : ℕ) (xs : List Index) → list_all (is_counted most) xs ≡ true → list_all (is_counted (most + 1)) xs ≡ true
 still_counted most xs h = passes_weaker (is_counted most) (is_counted (most + 1)) (λ x. one x.written) xs h
@@ -189,6 +192,13 @@ still_counted most xs h = passes_weaker (is_counted most) (is_counted (most + 1)
         let both = and_parts (nat_le 1 w.number) (nat_le w.number most) e in
         let bound : w.number ≤ most = leb-true w.number most both.1 in
         and_from (nat_le 1 w.number) (nat_le w.number (most + 1)) both.0 (le-leb w.number (most + 1) (omega arith))
+
+-- a write with the next number is among those so far
+pub counted_set : (most : ℕ) (xs : List Index) (place : ℕ) (value : List ℕ) (x : Index) → list_all (is_counted most) xs ≡ true
+    → list_all (is_counted (most + 1)) (set xs place (written_with value (most + 1) x)) ≡ true
+counted_set most xs place value x h =
+    passes_set (is_counted (most + 1)) xs place (written_with value (most + 1) x) (still_counted most xs h)
+    (and_from (nat_le 1 (most + 1)) (nat_le (most + 1) (most + 1)) (le-leb 1 (most + 1) (omega arith)) (le-leb (most + 1) (most + 1) (omega arith)))
 
 pub keeps-nv_write : (handle : ℕ) (pin value : List ℕ) (s : Parts) → HasRules s → Keeps (nv_write handle pin value s)
 keeps-nv_write handle pin value s h = on (index_at handle s.indices) refl
@@ -208,8 +218,7 @@ keeps-nv_write handle pin value s h = on (index_at handle s.indices) refl
         (omega (arith, length-set s.indices place y, h.shape.index_count))
         (all_set IsIndexShape s.indices place y h.shape.indices (record { policy = shape.policy; written = (refl, size) }))
         (order_set s.indices place x y e refl k.order)
-        (passes_set (is_counted n) s.indices place y (still_counted s.write_counter s.indices k.counted)
-        (and_from (nat_le 1 n) (nat_le n n) (le-leb 1 n (omega arith)) (le-leb n n (omega arith))))
+        (counted_set s.write_counter s.indices place value x k.counted)
         (apart_set s.indices place y (record { number = n; value = value }) refl (counted_before s h) k.apart)
         (passes_set has_attributes s.indices place y h.index_attributes (written_attributes_kept value n x (passes_at has_attributes s.indices place x h.index_attributes e)))
         (omega arith)

@@ -12,3 +12,4 @@ pub mod AnswersFit
 pub mod FromParts
 pub mod KeepsPolicies
 pub mod KeepsIndices
+pub mod FromRules

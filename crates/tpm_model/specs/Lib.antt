@@ -7,6 +7,7 @@ pub mod SessionRules
 pub mod IndexRules
 pub mod ObjectRules
 pub mod Rules
+pub mod Orderly
 pub mod Held
 pub mod Refusing
 pub mod PcrCommands

@@ -1,5 +1,5 @@
 -- The strings that a command hashes, as it comes.
-use Rattle.std.specs.Prelude.{ℕ, if◌then◌else◌, List, [], ◌∷◌, Option, None, Some}
+use Rattle.std.specs.Prelude.{ℕ, ◌^◌, nat_le, if◌then◌else◌, List, [], ◌∷◌, Option, None, Some}
 use Rattle.hash_bank.specs.declared.bank.Bank.{Bank}
 use Rattle.hash_bank.specs.Banks.{has_bank}
 use Rattle.hash_bank.specs.HashedString.{HashedString}
@@ -20,11 +20,12 @@ abbrev pub joined_values : Bank → ℕ → Parts → List ℕ
 joined_values bank pcrs s = values_string (chosen pcrs (values_of s.banks s.pcrs bank))
 
 -- PolicyPCR on the session that was found: the joined values, and the string of the digest that it
--- gives; none where the bank isn't present
+-- gives; none where the mask has a bit past those of the 24 PCRs, or the bank isn't present
 abbrev pub pcr_strings : Option Session → Bank → ℕ → Parts → List HashedString
 pcr_strings None bank pcrs s = []
 pcr_strings (Some session) bank pcrs s =
-    if has_bank s.banks bank then
+    if nat_le (2 ^ 24) pcrs then []
+    else if has_bank s.banks bank then
     record { hash = session.hash; bytes = joined_values bank pcrs s }
     ∷ record {
       hash = session.hash;

@@ -18,7 +18,6 @@ use Rattle.tpm_model.specs.declared.trail.TrailEntry.{TrailEntry}
 use Rattle.tpm_model.specs.declared.trail.TrailEntry.TheVariants.{Pcr, Or, AuthorizeNv}
 use Rattle.tpm_model.specs.Events.{content_of_table}
 use Rattle.tpm_model.specs.Strings.{joined_values}
-use Rattle.tpm_model.specs.Tied.{Tied}
 use Rattle.tpm_model.specs.Trails.{digest_of_in, entry_string_in}
 use Rattle.tpm_model.specs.ValidTable.{IsValidTable}
 use Rattle.tpm_model.specs.World.{AreHashed, FiledPolicy, LiveIndex, PolicyUpdate, World}
@@ -108,10 +107,3 @@ pub record IsTiedSession (s : Parts) (w : World) (session : Session) : Type 0 wh
 abbrev pub IsFiledHashed : World → Option FiledPolicy → Type 0
 IsFiledHashed w None = Unit {0}
 IsFiledHashed w (Some filed) = AllByRecursion (λ (table : PlainTable). AreHashed w (table_strings table)) filed.tables × AreHashed w (bind_strings filed.handle filed.pin)
-
--- the state and the world hang together, with indices, writes and trails
-pub record WholeTie (s : Parts) (w : World) : Type 0 where
-  pub base : Tied s w
-  pub indices : TiedIndices s w
-  pub sessions : AllByRecursion (IsTiedSession s w) s.sessions
-  pub filed : IsFiledHashed w w.filed

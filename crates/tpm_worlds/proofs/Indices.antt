@@ -8,21 +8,20 @@ use Rattle.nv_index.specs.declared.index.Index.{Index}
 use Rattle.nv_index.specs.declared.index.Written.{Written}
 use Rattle.nv_index.proofs.Lists.{passes_at}
 use Rattle.tpm_model.specs.declared.parts.Parts.{Parts}
-use Rattle.tpm_model.specs.Rules.{HasRules}
+use Rattle.tpm_model.specs.Orderly.{Orderly}
 use Rattle.tpm_model.specs.WholeTie.{HoldsRoot, IsLive, IsStrange, TiedIndices}
 use Rattle.tpm_model.specs.World.{LiveIndex, PolicyUpdate, World}
-use Rattle.tpm_model.proofs.KeepsIndices.{indices_kept}
 use Rattle.tpm_worlds.specs.WholeEvents.{KnowsPins}
 
 -- the number of an index's last write is one of the writes so far
-pub number_counted : (s : Parts) → HasRules s → (q : ℕ) (x : Index) (written : Written) → index_at q s.indices ≡ Some x → x.written ≡ Some written → written.number ≤ s.write_counter
-number_counted s rules q x written found was =
+pub number_counted : (s : Parts) → Orderly s → (q : ℕ) (x : Index) (written : Written) → index_at q s.indices ≡ Some x → x.written ≡ Some written → written.number ≤ s.write_counter
+number_counted s orderly q x written found was =
     let counted : is_numbered_within s.write_counter (Some written) ≡ true =
-    sym (ap (is_numbered_within s.write_counter) was) ∙ passes_at (is_counted s.write_counter) s.indices (index_place q s.indices) x (indices_kept s rules).counted found in
+    sym (ap (is_numbered_within s.write_counter) was) ∙ passes_at (is_counted s.write_counter) s.indices (index_place q s.indices) x orderly.counted found in
     leb-true written.number s.write_counter (and_parts (nat_le 1 written.number) (nat_le written.number s.write_counter) counted).1
 
 -- what a step leaves of the tie where an index stays as it was
-module _ (s t : Parts) (w v : World) (rules : HasRules s) (known : KnowsPins w) (tie : TiedIndices s w)
+module _ (s t : Parts) (w v : World) (orderly : Orderly s) (known : KnowsPins w) (tie : TiedIndices s w)
     (pins : (p : List ℕ) → Contains w.pins p → Contains v.pins p)
     (strange : (p : List ℕ) → Contains w.strange p → Contains v.strange p)
     (more : (u : PolicyUpdate) → Contains w.writes u → Contains v.writes u)
@@ -41,7 +40,7 @@ module _ (s t : Parts) (w v : World) (rules : HasRules s) (known : KnowsPins w) 
   live_back : (q : ℕ) (live : LiveIndex) → index_at q t.indices ≡ index_at q s.indices → IsLive t v q live → IsLive s w q live
   live_back q live same l =
       let found : index_at q s.indices ≡ Some l.index = sym same ∙ l.found in
-      let update = old _ l.update (number_counted s rules q l.index l.written found l.was) in
+      let update = old _ l.update (number_counted s orderly q l.index l.written found l.was) in
       record { index = l.index; found = found; written = l.written; was = l.was; policy = l.policy; known = known _ update; update = update }
 
   pub live_stays : (q : ℕ) (live : LiveIndex) → index_at q t.indices ≡ index_at q s.indices → get v.live q ≡ get w.live q → (get v.live q ≡ Some live) ↔ IsLive t v q live

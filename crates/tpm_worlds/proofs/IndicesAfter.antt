@@ -16,11 +16,10 @@ use Rattle.policy_digest.specs.Pin.{pin_policy_of}
 use Rattle.policy_digest.specs.PlainTable.{PlainTable}
 use Rattle.tpm_model.specs.declared.parts.Parts.{Parts}
 use Rattle.tpm_model.specs.Events.{content_of_table, strange_world, undefined_world, updated_world}
-use Rattle.tpm_model.specs.Rules.{HasRules}
+use Rattle.tpm_model.specs.Orderly.{Orderly}
 use Rattle.tpm_model.specs.ValidTable.{IsValidTable}
 use Rattle.tpm_model.specs.WholeTie.{HoldsRoot, IsLive, IsSoundUpdate, IsStrange, TiedIndices}
 use Rattle.tpm_model.specs.World.{LiveIndex, PolicyUpdate, World}
-use Rattle.tpm_model.proofs.KeepsIndices.{indices_kept}
 use Rattle.tpm_worlds.specs.WholeEvents.{KnowsPins}
 use Rattle.tpm_worlds.proofs.IndexPlaces.{found_handle, none_left, removed_at, removed_at_other, set_at, set_at_other, with_at, with_at_other}
 use Rattle.tpm_worlds.proofs.Indices.{live_stays, other_stays, root_stays}
@@ -38,13 +37,13 @@ neither s w q live none gone = (λ e. absurd (apart (sym gone ∙ e)), λ l. abs
     apart_index e = cc
 
 -- the same indices, counter, live indices and updates
-pub indices_same : (s t : Parts) (w v : World) → HasRules s → KnowsPins w → t.indices ≡ s.indices → t.write_counter ≡ s.write_counter → v.live ≡ w.live → v.writes ≡ w.writes
+pub indices_same : (s t : Parts) (w v : World) → Orderly s → KnowsPins w → t.indices ≡ s.indices → t.write_counter ≡ s.write_counter → v.live ≡ w.live → v.writes ≡ w.writes
     → ((p : List ℕ) → Contains w.pins p → Contains v.pins p) → ((p : List ℕ) → Contains w.strange p → Contains v.strange p) → TiedIndices s w → TiedIndices t v
-indices_same s t w v rules known indices counter live writes pins strange tie = record {
-  live = λ q x. live_stays s t w v rules known tie pins strange more old q x (ap (index_at q) indices) (ap (λ m. get m q) live);
-  roots = λ q x. root_stays s t w v rules known tie pins strange more old q x (ap (index_at q) indices) (ap (λ m. get m q) live);
+indices_same s t w v orderly known indices counter live writes pins strange tie = record {
+  live = λ q x. live_stays s t w v orderly known tie pins strange more old q x (ap (index_at q) indices) (ap (λ m. get m q) live);
+  roots = λ q x. root_stays s t w v orderly known tie pins strange more old q x (ap (index_at q) indices) (ap (λ m. get m q) live);
   updates = λ u k. let d = tie.updates u (subst (λ us. Contains us u) writes k) in record { number = omega (arith, d.number, counter); handle = d.handle; table = d.table };
-  others = λ x written k was. other_stays s t w v rules known tie pins strange more old x written (subst (λ xs. Contains xs x) indices k) was (ap (λ m. get m x.public.handle) live);
+  others = λ x written k was. other_stays s t w v orderly known tie pins strange more old x written (subst (λ xs. Contains xs x) indices k) was (ap (λ m. get m x.public.handle) live);
 }
   where
     more : (u : PolicyUpdate) → Contains w.writes u → Contains v.writes u
@@ -80,17 +79,17 @@ by_handle P q h alike apart = on (q == h) refl
     on false e = apart (eqb-false q h e)
 
 -- an index is taken away
-pub indices_undefined : (s : Parts) (w : World) (gone : ℕ) → HasRules s → KnowsPins w → TiedIndices s w
+pub indices_undefined : (s : Parts) (w : World) (gone : ℕ) → Orderly s → KnowsPins w → TiedIndices s w
     → TiedIndices (record s { indices = without_index gone s.indices }) (undefined_world gone w)
-indices_undefined s w gone rules known tie = record {
+indices_undefined s w gone orderly known tie = record {
   live = λ q x. by_handle ((get v.live q ≡ Some x) ↔ IsLive t v q x) q gone
       (λ same. neither t v q x (ap (λ n. index_at n t.indices) same ∙ removed_at 0x01000000 0x02000000 gone s.indices order) (removed_same w gone q same))
-      (λ other. live_stays s t w v rules known tie (λ _ k. k) (λ _ k. k) (λ _ k. k) (λ _ k _. k) q x (removed_at_other gone q s.indices other) (removed_else w gone q other));
+      (λ other. live_stays s t w v orderly known tie (λ _ k. k) (λ _ k. k) (λ _ k. k) (λ _ k _. k) q x (removed_at_other gone q s.indices other) (removed_else w gone q other));
   roots = λ q x e. by_handle (HoldsRoot t q x.table) q gone
       (λ same. absurd (nowhere (sym (removed_same w gone q same) ∙ e)))
-      (λ other. root_stays s t w v rules known tie (λ _ k. k) (λ _ k. k) (λ _ k. k) (λ _ k _. k) q x (removed_at_other gone q s.indices other) (removed_else w gone q other) e);
+      (λ other. root_stays s t w v orderly known tie (λ _ k. k) (λ _ k. k) (λ _ k. k) (λ _ k _. k) q x (removed_at_other gone q s.indices other) (removed_else w gone q other) e);
   updates = λ u k. let d = tie.updates u k in record { number = d.number; handle = d.handle; table = d.table };
-  others = λ x written k was. other_stays s t w v rules known tie (λ _ j. j) (λ _ j. j) (λ _ j. j) (λ _ j _. j) x written
+  others = λ x written k was. other_stays s t w v orderly known tie (λ _ j. j) (λ _ j. j) (λ _ j. j) (λ _ j _. j) x written
       (member (Contains s.indices) t.indices x (all_remove (Contains s.indices) s.indices (index_place gone s.indices) (all_of (Contains s.indices) s.indices (λ _ j. j))) k) was
       (removed_else w gone x.public.handle (member (λ (y : Index). y.public.handle ≡ gone → ⊥) t.indices x (none_left 0x01000000 0x02000000 gone s.indices order) k));
 }
@@ -102,7 +101,7 @@ indices_undefined s w gone rules known tie = record {
     v = undefined_world gone w
 
     order : AreHandles 0x01000000 0x02000000 (map (λ (x : Index). x.public.handle) s.indices)
-    order = handles_from_test 0x01000000 0x02000000 (map (λ (x : Index). x.public.handle) s.indices) (indices_kept s rules).order
+    order = handles_from_test 0x01000000 0x02000000 (map (λ (x : Index). x.public.handle) s.indices) orderly.table.order
 
     nowhere : {x : LiveIndex} → None ≡ Some x → ⊥
     nowhere e = cc
@@ -113,15 +112,15 @@ no_index None e = refl
 no_index (Some x) e = cc
 
 -- an index is defined
-pub indices_defined : (s : Parts) (w : World) (public : NvPublic) → HasRules s → KnowsPins w → define_refusal public s.indices ≡ None → TiedIndices s w
+pub indices_defined : (s : Parts) (w : World) (public : NvPublic) → Orderly s → KnowsPins w → define_refusal public s.indices ≡ None → TiedIndices s w
     → TiedIndices (record s { indices = with_index (unwritten public) s.indices }) w
-indices_defined s w public rules known allowed tie = record {
+indices_defined s w public orderly known allowed tie = record {
   live = λ q x. by_handle ((get w.live q ≡ Some x) ↔ IsLive t w q x) q public.handle
       (λ same. (λ e. absurd (free q x same ((tie.live q x).0 e)), λ l. absurd (blank q x same l)))
-      (λ other. live_stays s t w w rules known tie (λ _ k. k) (λ _ k. k) (λ _ k. k) (λ _ k _. k) q x (with_at_other q (unwritten public) s.indices (λ e. other (sym e))) refl);
+      (λ other. live_stays s t w w orderly known tie (λ _ k. k) (λ _ k. k) (λ _ k. k) (λ _ k _. k) q x (with_at_other q (unwritten public) s.indices (λ e. other (sym e))) refl);
   roots = λ q x e. by_handle (HoldsRoot t q x.table) q public.handle
       (λ same. absurd (free q x same ((tie.live q x).0 e)))
-      (λ other. root_stays s t w w rules known tie (λ _ k. k) (λ _ k. k) (λ _ k. k) (λ _ k _. k) q x (with_at_other q (unwritten public) s.indices (λ j. other (sym j))) refl e);
+      (λ other. root_stays s t w w orderly known tie (λ _ k. k) (λ _ k. k) (λ _ k. k) (λ _ k _. k) q x (with_at_other q (unwritten public) s.indices (λ j. other (sym j))) refl e);
   updates = λ u k. let d = tie.updates u k in record { number = d.number; handle = d.handle; table = d.table };
   others = λ x written k was. member (λ (y : Index). (z : Written) → y.written ≡ Some z → ((live : LiveIndex) × (get w.live y.public.handle ≡ Some live)) ⊎ IsStrange w y) t.indices x
       (all_with _ (unwritten public) s.indices (all_of _ s.indices (λ y j z is. tie.others y z j is)) (λ z is. absurd (never z is))) k written was;
@@ -146,9 +145,9 @@ indices_defined s w public rules known allowed tie = record {
         never l.written (ap (λ (y : Index). y.written) one ∙ l.was)
 
 -- the handle of an index has 32 bits
-pub handle_range : (s : Parts) → HasRules s → (q : ℕ) (x : Index) → index_at q s.indices ≡ Some x → x.public.handle < 2 ^ 32
-handle_range s rules q x found =
-    within 0x01000000 0x02000000 s.indices (handles_from_test 0x01000000 0x02000000 (map (λ (y : Index). y.public.handle) s.indices) (indices_kept s rules).order) (index_place q s.indices) found (omega arith)
+pub handle_range : (s : Parts) → Orderly s → (q : ℕ) (x : Index) → index_at q s.indices ≡ Some x → x.public.handle < 2 ^ 32
+handle_range s orderly q x found =
+    within 0x01000000 0x02000000 s.indices (handles_from_test 0x01000000 0x02000000 (map (λ (y : Index). y.public.handle) s.indices) orderly.table.order) (index_place q s.indices) found (omega arith)
   where
     within : (low end : ℕ) (xs : List Index) → AreHandles low end (map (λ (y : Index). y.public.handle) xs) → (place : ℕ) → slice_get xs place ≡ Some x → end ≤ 2 ^ 32 → x.public.handle < 2 ^ 32
     within low end [] order place e bound = cc
@@ -189,20 +188,20 @@ abbrev pub rewritten : Parts → ℕ → List ℕ → Index → Parts
 rewritten s h value x = record s { write_counter = s.write_counter + 1; indices = set s.indices (index_place h s.indices) (written_with value (s.write_counter + 1) x) }
 
 -- the program writes a table's root
-pub indices_updated : (s : Parts) (w : World) (h : ℕ) (pin : List ℕ) (table : PlainTable) (x : Index) → HasRules s → KnowsPins w → IsValidTable table
+pub indices_updated : (s : Parts) (w : World) (h : ℕ) (pin : List ℕ) (table : PlainTable) (x : Index) → Orderly s → KnowsPins w → IsValidTable table
     → index_at h s.indices ≡ Some x → pin_policy_of pin ≡ x.public.policy → TiedIndices s w
     → TiedIndices (rewritten s h (content_of_table table) x) (updated_world (s.write_counter + 1) h pin table w)
-indices_updated s w h pin table x rules known valid found policy tie = record {
+indices_updated s w h pin table x orderly known valid found policy tie = record {
   live = λ q live. by_handle ((get v.live q ≡ Some live) ↔ IsLive t v q live) q h
       (λ same. (λ e. subst (IsLive t v q) (is_new q live same e) (here q same), λ l. inserted_same w h new q same ∙ ap Some (only_new q live same l)))
-      (λ other. live_stays s t w v rules known tie more_pins (λ _ k. k) (more_writes w update) older_writes q live (set_at_other h q y s.indices handle other) (inserted_else w h new q other));
+      (λ other. live_stays s t w v orderly known tie more_pins (λ _ k. k) (more_writes w update) older_writes q live (set_at_other h q y s.indices handle other) (inserted_else w h new q other));
   roots = λ q live e. by_handle (HoldsRoot t q live.table) q h
       (λ same. subst (λ (z : LiveIndex). HoldsRoot t q z.table) (is_new q live same e)
       (record { index = y; found = at q same; written = last; was = refl; content = refl }))
-      (λ other. root_stays s t w v rules known tie more_pins (λ _ k. k) (more_writes w update) older_writes q live (set_at_other h q y s.indices handle other) (inserted_else w h new q other) e);
+      (λ other. root_stays s t w v orderly known tie more_pins (λ _ k. k) (more_writes w update) older_writes q live (set_at_other h q y s.indices handle other) (inserted_else w h new q other) e);
   updates = pushed (IsSoundUpdate t) w.writes update
       (λ u k. let d = tie.updates u k in record { number = omega (arith, d.number); handle = d.handle; table = d.table })
-      (record { number = omega arith; handle = subst (λ n. n < 2 ^ 32) (found_handle h s.indices x found) (handle_range s rules h x found); table = valid });
+      (record { number = omega arith; handle = subst (λ n. n < 2 ^ 32) (found_handle h s.indices x found) (handle_range s orderly h x found); table = valid });
   others = λ z written k was. member Known t.indices z
       (all_set Known s.indices (index_place h s.indices) y (all_of Known s.indices old_known) (known_at y handle)) k written was;
 }
@@ -272,18 +271,18 @@ indices_updated s w h pin table x rules known valid found policy tie = record {
 
     old_known : (z : Index) → Contains s.indices z → Known z
     old_known z k = by_handle (Known z) z.public.handle h (known_at z)
-        (λ other written was. other_stays s t w v rules known tie more_pins (λ _ j. j) (more_writes w update) older_writes z written k was (inserted_else w h new z.public.handle other))
+        (λ other written was. other_stays s t w v orderly known tie more_pins (λ _ j. j) (more_writes w update) older_writes z written k was (inserted_else w h new z.public.handle other))
 
 -- a stranger writes an index that isn't live
-pub indices_strange : (s : Parts) (w : World) (h : ℕ) (pin value : List ℕ) (x : Index) → HasRules s → KnowsPins w → index_at h s.indices ≡ Some x → pin_policy_of pin ≡ x.public.policy
+pub indices_strange : (s : Parts) (w : World) (h : ℕ) (pin value : List ℕ) (x : Index) → Orderly s → KnowsPins w → index_at h s.indices ≡ Some x → pin_policy_of pin ≡ x.public.policy
     → ((live : LiveIndex) → get w.live h ≡ Some live → ⊥) → TiedIndices s w → TiedIndices (rewritten s h value x) (strange_world pin w)
-indices_strange s w h pin value x rules known found policy dead tie = record {
+indices_strange s w h pin value x orderly known found policy dead tie = record {
   live = λ q live. by_handle ((get v.live q ≡ Some live) ↔ IsLive t v q live) q h
       (λ same. (λ e. absurd (dead live (ap (get w.live) (sym same) ∙ e)), λ l. absurd (fresh q live same l)))
-      (λ other. live_stays s t w v rules known tie (λ _ k. k) more_strange (λ _ k. k) (λ _ k _. k) q live (set_at_other h q y s.indices handle other) refl);
+      (λ other. live_stays s t w v orderly known tie (λ _ k. k) more_strange (λ _ k. k) (λ _ k _. k) q live (set_at_other h q y s.indices handle other) refl);
   roots = λ q live e. by_handle (HoldsRoot t q live.table) q h
       (λ same. absurd (dead live (ap (get w.live) (sym same) ∙ e)))
-      (λ other. root_stays s t w v rules known tie (λ _ k. k) more_strange (λ _ k. k) (λ _ k _. k) q live (set_at_other h q y s.indices handle other) refl e);
+      (λ other. root_stays s t w v orderly known tie (λ _ k. k) more_strange (λ _ k. k) (λ _ k _. k) q live (set_at_other h q y s.indices handle other) refl e);
   updates = λ u k. let d = tie.updates u k in record { number = omega (arith, d.number); handle = d.handle; table = d.table };
   others = λ z written k was. member Known t.indices z
       (all_set Known s.indices (index_place h s.indices) y (all_of Known s.indices old_known)
@@ -322,4 +321,4 @@ indices_strange s w h pin value x rules known found policy dead tie = record {
     Known z = (written : Written) → z.written ≡ Some written → ((live : LiveIndex) × (get v.live z.public.handle ≡ Some live)) ⊎ IsStrange v z
 
     old_known : (z : Index) → Contains s.indices z → Known z
-    old_known z k = λ written was. other_stays s t w v rules known tie (λ _ j. j) more_strange (λ _ j. j) (λ _ j _. j) z written k was refl
+    old_known z k = λ written was. other_stays s t w v orderly known tie (λ _ j. j) more_strange (λ _ j. j) (λ _ j _. j) z written k was refl

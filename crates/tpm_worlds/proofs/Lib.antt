@@ -6,6 +6,7 @@ pub mod Sessions
 pub mod SessionsAfter
 pub mod Opened
 pub mod Steady
+pub mod OrderlyAfter
 pub mod EachUnseal
 pub mod CommandLists
 pub mod Fresh

@@ -1,7 +1,8 @@
 -- What is kept of each session, every command keeps.
-use Rattle.std.proofs.Common.{◌≡◌, ℕ, true, cond, List, [], ◌∷◌, refl, subst, lit<, Contains}
+use Rattle.std.proofs.Common.{◌≡◌, ℕ, ◌^◌, ◌<◌, true, cond, List, [], ◌∷◌, refl, subst, lit<, Contains}
 use Rattle.std.specs.Prelude.{Some}
 use Rattle.std.specs.List.{AllByRecursion}
+use Rattle.std.proofs.lemmas.Bool.{lt-leb}
 use Rattle.hash_bank.specs.declared.bank.Bank.{Bank}
 use Rattle.hash_bank.specs.Banks.{has_bank}
 use Rattle.nv_index.specs.IndexName.{index_name_of}
@@ -39,14 +40,16 @@ pub like : (s t : Parts) (v : World) (xs : List Session) → t.update_counter �
 like s t v xs counter banks pcrs all = all_map (IsGood s v) (IsGood t v) (same_good s t v counter banks pcrs) xs all
 
 -- the strings of each policy command, where its session is there
-pcr_hashed : (handle : ℕ) (bank : Bank) (pcrs : ℕ) (s : Parts) (v : World) (x : Session) → session_at handle s.sessions ≡ Some x → has_bank s.banks bank ≡ true
+pcr_hashed : (handle : ℕ) (bank : Bank) (pcrs : ℕ) (s : Parts) (v : World) (x : Session) → session_at handle s.sessions ≡ Some x → pcrs < 2 ^ 24 → has_bank s.banks bank ≡ true
     → AreHashed v (pcr_strings (session_at handle s.sessions) bank pcrs s)
     → AreHashed v (record { hash = x.hash; bytes = joined_values bank pcrs s }
     ∷ record { hash = x.hash; bytes = pcr_string_in x.hash x.digest bank pcrs (present_digest_in x.hash bank pcrs s.banks s.pcrs) } ∷ [])
-pcr_hashed handle bank pcrs s v x e present h =
+pcr_hashed handle bank pcrs s v x e small present h =
     subst (λ b. AreHashed v (cond b (record { hash = x.hash; bytes = joined_values bank pcrs s }
     ∷ record { hash = x.hash; bytes = pcr_string_in x.hash x.digest bank pcrs (present_digest_in x.hash bank pcrs s.banks s.pcrs) } ∷ []) [])) present
-    (subst (λ o. AreHashed v (pcr_strings o bank pcrs s)) e h)
+    (subst (λ b. AreHashed v (cond b [] (cond (has_bank s.banks bank) (record { hash = x.hash; bytes = joined_values bank pcrs s }
+    ∷ record { hash = x.hash; bytes = pcr_string_in x.hash x.digest bank pcrs (present_digest_in x.hash bank pcrs s.banks s.pcrs) } ∷ []) []))) (lt-leb (2 ^ 24) pcrs small)
+    (subst (λ o. AreHashed v (pcr_strings o bank pcrs s)) e h))
 
 or_hashed : (handle : ℕ) (list : List (List ℕ)) (s : Parts) (v : World) (x : Session) → session_at handle s.sessions ≡ Some x
     → AreHashed v (or_strings (session_at handle s.sessions) list) → Contains v.hashed (record { hash = x.hash; bytes = or_string_in x.hash list })
@@ -73,7 +76,7 @@ sessions_after (command.StartSession hash) s v h all =
     like s _ v _ refl refl refl (all_push (IsGood s v) s.sessions (fresh_session hash (session_handle s.next_session)) all (fresh_good s v hash (session_handle s.next_session) allowed)))
 sessions_after (command.PolicyPcr handle bank pcrs) s v h all =
     by_policy_pcr (Goes v) handle bank pcrs s (λ _. all) (λ x e small present free.
-    let strings = pcr_hashed handle bank pcrs s v x e present h in
+    let strings = pcr_hashed handle bank pcrs s v x e small present h in
     like s _ v _ refl refl refl (all_set (IsGood s v) s.sessions (session_place handle s.sessions) _ all
     (looked_good s v x bank pcrs (found s v all handle x e) small present free (strings _ (0, lit< tt, refl)) (strings _ (1, lit< tt, refl)))))
 sessions_after (command.PolicyOr handle list) s v h all =

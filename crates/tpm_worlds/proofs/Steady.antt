@@ -62,7 +62,7 @@ extended_sizes banks pcr given bank pcrs h = on (pcr_of banks pcrs bank pcr) giv
         let known = value_at banks pcrs bank pcr old h e in
         keeps_values banks pcrs (place_of banks bank pcr) old _ h known.found (length-digest_in bank (old ++ digest) ∙ sym known.size)
 
-sizes_after : (c : Command) (s : Parts) → HasValues s.banks s.pcrs → HasSizes (respond c s)
+pub sizes_after : (c : Command) (s : Parts) → HasValues s.banks s.pcrs → HasSizes (respond c s)
 sizes_after (command.Restart locality banks) s o = by_restart HasSizes locality banks s (λ _. o) (start_sizes banks locality)
 sizes_after (command.PcrExtend pcr digests) s o =
     by_pcr_extend HasSizes pcr digests s (λ _. o)
@@ -106,7 +106,7 @@ hashed_stays (Other c) r t v = other c
     other c = refl
 
 -- and leaves what the policy file states
-filed_stays : (event : Event) (r : Response) (t : Parts) (v : World) → (accepted_world event r t v).filed ≡ v.filed
+pub filed_stays : (event : Event) (r : Response) (t : Parts) (v : World) → (accepted_world event r t v).filed ≡ v.filed
 filed_stays event (answer.Refused why) t v = refl
 filed_stays (Update handle pin table) answer.Done t v = refl
 filed_stays (Update handle pin table) r t v = refl
@@ -132,7 +132,7 @@ grows_after event s w x h =
     let r = respond (command_of event) s in
     subst (λ xs. Contains xs x) (sym (hashed_stays event r.0 r.1 (hashed_world (event_strings event s) w))) (Contains-append_left w.hashed (event_strings event s) x h)
 
-filed_on : (w v : World) → Grows w v → (o : Option FiledPolicy) → IsFiledHashed w o → IsFiledHashed v o
+pub filed_on : (w v : World) → Grows w v → (o : Option FiledPolicy) → IsFiledHashed w o → IsFiledHashed v o
 filed_on w v grows None h = tt
 filed_on w v grows (Some filed) h = (
   all_map (λ (table : PlainTable). AreHashed w (table_strings table)) (λ (table : PlainTable). AreHashed v (table_strings table)) (λ table k x m. grows x (k x m)) filed.tables h.0,
@@ -156,7 +156,7 @@ new_handle s order =
     (handles_from_test 0x81000000 (0x81000000 + s.next_object) (map (λ (x : Object). x.handle) s.objects) order) (omega arith)
 
 -- every event keeps the tie of objects, in a world that has its strings
-event_goes : (event : Event) (s : Parts) (v : World) → keeps_object_order s ≡ true → IsFair event v → AreHashed v (event_strings event s) → Tied s v → Goes event v (respond (command_of event) s)
+pub event_goes : (event : Event) (s : Parts) (v : World) → keeps_object_order s ≡ true → IsFair event v → AreHashed v (event_strings event s) → Tied s v → Goes event v (respond (command_of event) s)
 event_goes (Update handle pin table) s v order fair h t =
     let strings : AreHashed v (table_strings table) = λ x k. h x (Contains-append_left _ (bind_strings handle pin) x (Contains-append_right (command_strings (command_of (Update handle pin table)) s) (table_strings table) x k)) in
     let binds : AreHashed v (bind_strings handle pin) = λ x k. h x (Contains-append_right (command_strings (command_of (Update handle pin table)) s ++ table_strings table) (bind_strings handle pin) x k) in
@@ -175,12 +175,23 @@ event_goes (SealPin index pin) s v order fair h t =
 event_goes (Other c) s v order fair h t = goes c s v h t
 
 -- what is fair stays fair with more strings
-fair_on : (event : Event) (w : World) (more : List HashedString) → IsFair event w → IsFair event (hashed_world more w)
+pub fair_on : (event : Event) (w : World) (more : List HashedString) → IsFair event w → IsFair event (hashed_world more w)
 fair_on (Update handle pin table) w more h = tt
 fair_on (Define public pin) w more h = tt
 fair_on (SealTo binding secret) w more h = sound_on w (hashed_world more w) (λ _ k. k) binding h
 fair_on (SealPin handle pin) w more h = tt
 fair_on (Other c) w more h = tt
+
+-- every event keeps what is kept of each session
+pub good_after : (event : Event) (s : Parts) (w : World) → AreGood w s → AreGood (world_after event s w) (respond (command_of event) s).1
+good_after event s w good =
+    let more = event_strings event s in
+    let v = hashed_world more w in
+    let r = respond (command_of event) s in
+    let more_good : AreGood v s = all_map (IsGood s w) (IsGood s v) (good_on s w v (λ x h. Contains-append_left w.hashed more x h)) s.sessions good in
+    let after : AreGood v r.1 = sessions_after (command_of event) s v (command_hashed event s w) more_good in
+    let grows : Grows v (world_after event s w) = λ x h. subst (λ xs. Contains xs x) (sym (hashed_stays event r.0 r.1 v)) h in
+    all_map (IsGood r.1 v) (IsGood r.1 (world_after event s w)) (good_on r.1 v (world_after event s w) grows) r.1.sessions after
 
 -- what every event keeps
 pub record Steady (s : Parts) (w : World) : Type 0 where
@@ -195,20 +206,16 @@ steady_after event s w fair k =
     let more = event_strings event s in
     let v = hashed_world more w in
     let r = respond (command_of event) s in
-    let same = hashed_stays event r.0 r.1 v in
-    let more_good : AreGood v s = all_map (IsGood s w) (IsGood s v) (good_on s w v (λ x h. Contains-append_left w.hashed more x h)) s.sessions k.sessions in
-    let after : AreGood v r.1 = sessions_after (command_of event) s v (command_hashed event s w) more_good in
-    let grows : Grows v (world_after event s w) = λ x h. subst (λ xs. Contains xs x) (sym same) h in
     record {
       values = sizes_after (command_of event) s k.values;
       order = order_after_command (command_of event) s k.order;
       tied = event_goes event s v k.order (fair_on event w more fair) (all_hashed w more) (tied_hashed s w more k.tied);
-      sessions = all_map (IsGood r.1 v) (IsGood r.1 (world_after event s w)) (good_on r.1 v (world_after event s w) grows) r.1.sessions after;
+      sessions = good_after event s w k.sessions;
       filed = subst (IsFiledHashed (world_after event s w)) (sym (filed_stays event r.0 r.1 v)) (filed_on w (world_after event s w) (grows_after event s w) w.filed k.filed);
     }
 
 -- from the rules and the tie, and back
-good_all : (s : Parts) (w : World) (xs : List Session) → KeepsSessions s xs → AllByRecursion (IsHashedSession s w) xs → AllByRecursion (IsGood s w) xs
+pub good_all : (s : Parts) (w : World) (xs : List Session) → KeepsSessions s xs → AllByRecursion (IsHashedSession s w) xs → AllByRecursion (IsGood s w) xs
 good_all s w [] k all = tt
 good_all s w (x ∷ xs) k all =
     let fold = and_parts (is_folded x) (list_all is_folded xs) k.fold in

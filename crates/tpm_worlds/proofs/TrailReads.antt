@@ -10,7 +10,7 @@ use Rattle.hash_bank.specs.declared.bank.Bank.{Bank}
 use Rattle.hash_bank.specs.declared.bank.Bank.TheVariants.{Sha1, Sha256, Sha384, Sha512}
 use Rattle.nv_index.specs.Attributes.{content_size, defined_attributes, written_attributes}
 use Rattle.nv_index.specs.IndexName.{index_name_of, index_string, written_public}
-use Rattle.nv_index.specs.Table.{has_attributes, has_written, index_at, index_place}
+use Rattle.nv_index.specs.Table.{has_attributes, has_written, index_at, index_place, is_mark, is_marked}
 use Rattle.nv_index.specs.declared.index.Index.{Index}
 use Rattle.nv_index.specs.declared.index.NvPublic.{NvPublic}
 use Rattle.nv_index.specs.declared.index.Written.{Written}
@@ -26,11 +26,10 @@ use Rattle.tpm_model.specs.declared.trail.TrailEntry.{TrailEntry}
 use Rattle.tpm_model.specs.declared.trail.TrailEntry.TheVariants as entry
 use Rattle.tpm_model.specs.declared.trail.TrailEntry.TheVariants.{Pcr, Or, AuthorizeNv}
 use Rattle.tpm_model.specs.Events.{content_of_table}
+use Rattle.tpm_model.specs.Orderly.{Orderly}
 use Rattle.tpm_model.specs.Respond.{respond}
-use Rattle.tpm_model.specs.Rules.{HasRules}
 use Rattle.tpm_model.specs.SessionCommands.{content_in, session_handle}
 use Rattle.tpm_model.specs.Sessions.{fresh_session, session_place}
-use Rattle.tpm_model.specs.Shape.{IsIndexShape, IsWrittenShape}
 use Rattle.tpm_model.specs.Strings.{command_strings}
 use Rattle.tpm_model.specs.WholeTie.{AreTiedEntries, IsTiedEntry, IsTiedRead, IsTiedSession, IsWriteOf, TiedIndices}
 use Rattle.tpm_model.specs.World.{LiveIndex, PolicyUpdate, World, AreHashed}
@@ -111,19 +110,16 @@ pub reads_on : (w v : World) → GrowsAll w v → (xs : List Session) → AllByR
 reads_on w v grows xs all = all_map (HasReads w) (HasReads v) (λ x h. all_map (IsTiedEntry w) (IsTiedEntry v) (entry_on w v grows) x.trail h) xs all
 
 -- an index that is written has the attributes and the size of one
-written_area : (s : Parts) → HasRules s → (q : ℕ) (x : Index) (written : Written) → index_at q s.indices ≡ Some x → x.written ≡ Some written
+written_area : (s : Parts) → Orderly s → (q : ℕ) (x : Index) (written : Written) → index_at q s.indices ≡ Some x → x.written ≡ Some written
     → x.public ≡ written_public x.public.handle x.public.policy
-written_area s rules q x written found was = area
+written_area s orderly q x written found was = area
   where
-    shape : IsIndexShape x
-    shape = all_at IsIndexShape s.indices (index_place q s.indices) x rules.shape.indices found
-
     mark : has_written x.public.attributes ≡ true
-    mark = (subst (IsWrittenShape x.public.attributes) was shape.written).0
+    mark = sym (ap (is_mark x.public.attributes) was) ∙ passes_at is_marked s.indices (index_place q s.indices) x orderly.table.marks found
 
     tests : ((x.public.attributes == defined_attributes || x.public.attributes == written_attributes) ≡ true) × ((x.public.size == content_size) ≡ true)
     tests = and_parts (x.public.attributes == defined_attributes || x.public.attributes == written_attributes) (x.public.size == content_size)
-        (passes_at has_attributes s.indices (index_place q s.indices) x rules.index_attributes found)
+        (passes_at has_attributes s.indices (index_place q s.indices) x orderly.table.attributes found)
 
     either : (a b : Bool) → (x.public.attributes == defined_attributes) ≡ a → (x.public.attributes == written_attributes) ≡ b → (a || b) ≡ true → x.public.attributes ≡ written_attributes
     either true b e f both = let new : x.public.attributes ≡ defined_attributes = eqb-true x.public.attributes defined_attributes e in
@@ -152,7 +148,7 @@ found_member : (q : ℕ) (xs : List Index) (x : Index) → index_at q xs ≡ Som
 found_member q xs x e = (index_place q xs, slice_get_within xs (index_place q xs) x e, get_or_from_slice_get xs (index_place q xs) x x e)
 
 -- a PolicyAuthorizeNV reads the program's write or a stranger's
-module _ (s : Parts) (v : World) (rules : HasRules s) (tie : TiedIndices s v) (q : ℕ) (x : Index) (written : Written) (found : index_at q s.indices ≡ Some x)
+module _ (s : Parts) (v : World) (orderly : Orderly s) (tie : TiedIndices s v) (q : ℕ) (x : Index) (written : Written) (found : index_at q s.indices ≡ Some x)
     (was : x.written ≡ Some written) (hash : Bank) (digest : List ℕ) (met : written.value ≡ content_in hash digest) where
   by_live : (live : LiveIndex) → get v.live x.public.handle ≡ Some live
       → (pin : List ℕ) × (x.public.policy ≡ pin_policy_of pin) × IsWriteOf v written.number x.public.handle pin digest
@@ -184,10 +180,10 @@ module _ (s : Parts) (v : World) (rules : HasRules s) (tie : TiedIndices s v) (q
   pub tied_read : Contains v.hashed (record { hash = Sha256; bytes = index_string x.public }) → IsTiedRead v (index_name_of x.public) digest written.number
   tied_read string =
       let pin = by_either in
-      let area : x.public ≡ written_public x.public.handle (pin_policy_of pin.0) = written_area s rules q x written found was ∙ ap (written_public x.public.handle) pin.1 in
+      let area : x.public ≡ written_public x.public.handle (pin_policy_of pin.0) = written_area s orderly q x written found was ∙ ap (written_public x.public.handle) pin.1 in
       record {
         handle = x.public.handle;
-        range = handle_range s rules q x found;
+        range = handle_range s orderly q x found;
         pin = pin.0;
         name = ap index_name_of area;
         string = subst (λ (p : NvPublic). Contains v.hashed (record { hash = Sha256; bytes = index_string p })) area string;
@@ -199,29 +195,29 @@ abbrev Goes : World → Response × Parts → Type 0
 Goes v r = AreRead v r.1
 
 -- every command keeps what was read, in a world that has its strings
-pub reads_after : (c : Command) (s : Parts) (v : World) → HasRules s → TiedIndices s v → AreHashed v (command_strings c s) → AreRead v s → AreRead v (respond c s).1
-reads_after (command.Restart locality banks) s v rules tie h all = by_restart (Goes v) locality banks s (λ _. all) tt
-reads_after (command.PcrExtend pcr digests) s v rules tie h all = by_pcr_extend (Goes v) pcr digests s (λ _. all) all
-reads_after (command.PcrRead bank pcr) s v rules tie h all = by_pcr_read (Goes v) bank pcr s (λ _. all)
-reads_after (command.StartSession hash) s v rules tie h all =
+pub reads_after : (c : Command) (s : Parts) (v : World) → Orderly s → TiedIndices s v → AreHashed v (command_strings c s) → AreRead v s → AreRead v (respond c s).1
+reads_after (command.Restart locality banks) s v orderly tie h all = by_restart (Goes v) locality banks s (λ _. all) tt
+reads_after (command.PcrExtend pcr digests) s v orderly tie h all = by_pcr_extend (Goes v) pcr digests s (λ _. all) all
+reads_after (command.PcrRead bank pcr) s v orderly tie h all = by_pcr_read (Goes v) bank pcr s (λ _. all)
+reads_after (command.StartSession hash) s v orderly tie h all =
     by_start_session (Goes v) hash s (λ _. all) (λ _. all_push (HasReads v) s.sessions (fresh_session hash (session_handle s.next_session)) all tt)
-reads_after (command.PolicyPcr handle bank pcrs) s v rules tie h all =
+reads_after (command.PolicyPcr handle bank pcrs) s v orderly tie h all =
     by_policy_pcr (Goes v) handle bank pcrs s (λ _. all) (λ x e _ _ _. all_set (HasReads v) s.sessions (session_place handle s.sessions) _ all
     (all_push (IsTiedEntry v) x.trail _ (all_at (HasReads v) s.sessions (session_place handle s.sessions) x all e) tt))
-reads_after (command.PolicyOr handle list) s v rules tie h all =
+reads_after (command.PolicyOr handle list) s v orderly tie h all =
     by_policy_or (Goes v) handle list s (λ _. all) (λ x e. all_set (HasReads v) s.sessions (session_place handle s.sessions) _ all
     (all_push (IsTiedEntry v) x.trail (entry.Or list) (all_at (HasReads v) s.sessions (session_place handle s.sessions) x all e) tt))
-reads_after (command.PolicyAuthorizeNv handle index) s v rules tie h all =
+reads_after (command.PolicyAuthorizeNv handle index) s v orderly tie h all =
     by_policy_authorize_nv (Goes v) handle index s (λ _. all) (λ x i written e found was met. all_set (HasReads v) s.sessions (session_place handle s.sessions) _ all
     (all_push (IsTiedEntry v) x.trail (entry.AuthorizeNv (index_name_of i.public) x.digest written.number) (all_at (HasReads v) s.sessions (session_place handle s.sessions) x all e)
-    (tied_read s v rules tie index i written found was x.hash x.digest met (nv_hashed handle index s v x i e found h _ (0, lit< tt, refl)))))
-reads_after (command.PolicyGetDigest handle) s v rules tie h all = by_policy_get_digest (Goes v) handle s (λ _. all)
-reads_after (command.FlushSession handle) s v rules tie h all = by_flush_session (Goes v) handle s (λ _. all) (all_remove (HasReads v) s.sessions (session_place handle s.sessions) all)
-reads_after (command.NvDefine public) s v rules tie h all = by_nv_define (Goes v) public s (λ _. all) (λ _. all)
-reads_after (command.NvUndefine index) s v rules tie h all = by_nv_undefine (Goes v) index s (λ _. all) (λ _ _. all)
-reads_after (command.NvWrite index pin value) s v rules tie h all = by_nv_write (Goes v) index pin value s (λ _. all) (λ _ _ _ _. all)
-reads_after (command.NvRead index) s v rules tie h all = by_nv_read (Goes v) index s (λ _. all)
-reads_after (command.NvReadPublic index) s v rules tie h all = by_nv_read_public (Goes v) index s (λ _. all)
-reads_after (command.Seal policy secret) s v rules tie h all = by_seal (Goes v) policy secret s (λ _. all) all
-reads_after (command.Evict handle) s v rules tie h all = by_evict (Goes v) handle s (λ _. all) all
-reads_after (command.Unseal session handle) s v rules tie h all = by_unseal (Goes v) session handle s (λ _. all) (λ _ _ _ _ _ _. all)
+    (tied_read s v orderly tie index i written found was x.hash x.digest met (nv_hashed handle index s v x i e found h _ (0, lit< tt, refl)))))
+reads_after (command.PolicyGetDigest handle) s v orderly tie h all = by_policy_get_digest (Goes v) handle s (λ _. all)
+reads_after (command.FlushSession handle) s v orderly tie h all = by_flush_session (Goes v) handle s (λ _. all) (all_remove (HasReads v) s.sessions (session_place handle s.sessions) all)
+reads_after (command.NvDefine public) s v orderly tie h all = by_nv_define (Goes v) public s (λ _. all) (λ _. all)
+reads_after (command.NvUndefine index) s v orderly tie h all = by_nv_undefine (Goes v) index s (λ _. all) (λ _ _. all)
+reads_after (command.NvWrite index pin value) s v orderly tie h all = by_nv_write (Goes v) index pin value s (λ _. all) (λ _ _ _ _. all)
+reads_after (command.NvRead index) s v orderly tie h all = by_nv_read (Goes v) index s (λ _. all)
+reads_after (command.NvReadPublic index) s v orderly tie h all = by_nv_read_public (Goes v) index s (λ _. all)
+reads_after (command.Seal policy secret) s v orderly tie h all = by_seal (Goes v) policy secret s (λ _. all) all
+reads_after (command.Evict handle) s v orderly tie h all = by_evict (Goes v) handle s (λ _. all) all
+reads_after (command.Unseal session handle) s v orderly tie h all = by_unseal (Goes v) session handle s (λ _. all) (λ _ _ _ _ _ _. all)

@@ -17,22 +17,26 @@ use Rattle.tpm_model.specs.declared.sessions.Session.{Session}
 use Rattle.tpm_model.specs.Binding as binding
 use Rattle.tpm_model.specs.Binding.{policy_of}
 use Rattle.tpm_model.specs.Events.{Clean, Event, Update, Define, SealTo, SealPin, Other, accepted_world, command_of, content_of_table, event_strings, other_world, pinned_world, strange_world, world_after}
+use Rattle.tpm_model.specs.Orderly.{Orderly}
 use Rattle.tpm_model.specs.Respond.{respond}
 use Rattle.tpm_model.specs.Rules.{HasRules}
 use Rattle.tpm_model.specs.Strings.{command_strings}
 use Rattle.tpm_model.specs.Tied.{Tied}
-use Rattle.tpm_model.specs.WholeTie.{IsTiedSession, TiedIndices, WholeTie}
+use Rattle.tpm_model.specs.WholeTie.{IsFiledHashed, IsTiedSession, TiedIndices}
 use Rattle.tpm_model.specs.World.{LiveIndex, PolicyUpdate, World, AreHashed, hashed_world}
 use Rattle.tpm_worlds.specs.EventLists.{IsFair, Safe}
-use Rattle.tpm_worlds.specs.SealedTie.{IsHashedSession, SealedTie}
-use Rattle.tpm_worlds.specs.WholeEvents.{HasRanges, IsSoundEvent, KnowsPins}
+use Rattle.tpm_worlds.specs.SealedTie.{IsHashedSession}
+use Rattle.tpm_worlds.specs.WholeEvents.{HasRanges, IsSoundEvent, KnowsPins, OwnTie}
 use Rattle.tpm_worlds.proofs.AfterCommand.{written_strings}
 use Rattle.tpm_worlds.proofs.Cases.{by_evict, by_flush_session, by_nv_define, by_nv_read, by_nv_read_public, by_nv_undefine, by_nv_write, by_pcr_extend, by_pcr_read, by_policy_authorize_nv, by_policy_get_digest, by_policy_or, by_policy_pcr, by_restart, by_seal, by_start_session, by_unseal}
 use Rattle.tpm_worlds.proofs.IndicesAfter.{indices_defined, indices_same, indices_strange, indices_undefined, indices_updated, rewritten}
 use Rattle.tpm_worlds.proofs.Ranges.{ranged_accepted}
 use Rattle.tpm_worlds.proofs.SamePin.{same_pin}
-use Rattle.tpm_worlds.proofs.Steady.{command_hashed, hashed_stays, steady_after, steady_from, tie_from}
-use Rattle.tpm_model.proofs.Ties.{pushed, sound_on, tied_hashed}
+use Rattle.tpm_worlds.proofs.Sessions.{IsGood, hashed_from}
+use Rattle.tpm_worlds.proofs.SessionsAfter.{AreGood}
+use Rattle.tpm_worlds.proofs.Steady.{command_hashed, event_goes as tied_goes, fair_on, filed_on, filed_stays, good_after, good_all, grows_after, hashed_stays}
+use Rattle.tpm_model.proofs.KeepsRules.{sessions_kept}
+use Rattle.tpm_model.proofs.Ties.{all_hashed, pushed, sound_on, tied_hashed}
 use Rattle.tpm_worlds.proofs.TrailReads.{AreRead, GrowsAll, HasReads, hashed_session, reads_after, reads_on, session_reads, tied_session}
 use Rattle.tpm_worlds.proofs.Trails.{all_map}
 
@@ -111,11 +115,11 @@ dead s v h pin x tie tied safe hashed found policy clean live e =
     one_index : (a b : Index) → Some a ≡ Some b → a ≡ b
     one_index a b f = cc
 
-module _ (s : Parts) (v : World) (rules : HasRules s) (known : KnowsPins v) (safe : Safe v) (tied : Tied s v) (tie : TiedIndices s v) where
+module _ (s : Parts) (v : World) (orderly : Orderly s) (known : KnowsPins v) (safe : Safe v) (tied : Tied s v) (tie : TiedIndices s v) where
   -- a state with the same indices and the same counter, in a world with the same live indices, updates and pins
   stays : (t : Parts) (u : World) → t.indices ≡ s.indices → t.write_counter ≡ s.write_counter → u.live ≡ v.live → u.writes ≡ v.writes
       → ((p : List ℕ) → Contains v.pins p → Contains u.pins p) → ((p : List ℕ) → Contains v.strange p → Contains u.strange p) → TiedIndices t u
-  stays t u indices counter live writes pins strange = indices_same s t v u rules known indices counter live writes pins strange tie
+  stays t u indices counter live writes pins strange = indices_same s t v u orderly known indices counter live writes pins strange tie
 
   -- a command of anyone
   other_goes : (c : Command) → AreHashed v (command_strings c s) → Goes (Other c) v (respond c s)
@@ -136,13 +140,13 @@ module _ (s : Parts) (v : World) (rules : HasRules s) (known : KnowsPins v) (saf
   other_goes (command.FlushSession session) h =
       by_flush_session (Goes (Other (command.FlushSession session)) v) session s (λ _ _. tie) (λ _. stays _ v refl refl refl refl (λ _ k. k) (λ _ k. k))
   other_goes (command.NvDefine public) h =
-      by_nv_define (Goes (Other (command.NvDefine public)) v) public s (λ _ _. tie) (λ allowed _. indices_defined s v public rules known allowed tie)
+      by_nv_define (Goes (Other (command.NvDefine public)) v) public s (λ _ _. tie) (λ allowed _. indices_defined s v public orderly known allowed tie)
   other_goes (command.NvUndefine index) h =
-      by_nv_undefine (Goes (Other (command.NvUndefine index)) v) index s (λ _ _. tie) (λ _ _ _. indices_undefined s v index rules known tie)
+      by_nv_undefine (Goes (Other (command.NvUndefine index)) v) index s (λ _ _. tie) (λ _ _ _. indices_undefined s v index orderly known tie)
   other_goes (command.NvWrite index pin value) h =
       by_nv_write (Goes (Other (command.NvWrite index pin value)) v) index pin value s (λ _ _. tie) (λ x e policy _ clean.
       on_write (λ t. TiedIndices t (strange_world pin v)) s index value x e
-      (indices_strange s v index pin value x rules known e policy (dead s v index pin x tie tied safe (written_strings index pin s v x e h) e policy clean) tie))
+      (indices_strange s v index pin value x orderly known e policy (dead s v index pin x tie tied safe (written_strings index pin s v x e h) e policy clean) tie))
   other_goes (command.NvRead index) h = by_nv_read (Goes (Other (command.NvRead index)) v) index s (nothing (command.NvRead index) s v refl tie)
   other_goes (command.NvReadPublic index) h = by_nv_read_public (Goes (Other (command.NvReadPublic index)) v) index s (nothing (command.NvReadPublic index) s v refl tie)
   other_goes (command.Seal policy secret) h =
@@ -155,10 +159,10 @@ module _ (s : Parts) (v : World) (rules : HasRules s) (known : KnowsPins v) (saf
   event_goes (Update handle pin table) sound h =
       by_nv_write (Goes (Update handle pin table) v) handle pin (content_of_table table) s (λ _ _. tie) (λ x e policy _ _.
       on_write (λ t. TiedIndices t (accepted_world (Update handle pin table) answer.Done t v)) s handle (content_of_table table) x e
-      (indices_updated s v handle pin table x rules known sound e policy tie))
+      (indices_updated s v handle pin table x orderly known sound e policy tie))
   event_goes (Define public pin) sound h =
       by_nv_define (Goes (Define public pin) v) public s (λ _ _. tie) (λ allowed _.
-      indices_defined s (pinned_world pin v) public rules (λ u k. Contains-append_left v.pins (pin ∷ []) u.pin (known u k)) allowed
+      indices_defined s (pinned_world pin v) public orderly (λ u k. Contains-append_left v.pins (pin ∷ []) u.pin (known u k)) allowed
       (stays s (pinned_world pin v) refl refl refl refl (λ p k. Contains-append_left v.pins (pin ∷ []) p k) (λ _ k. k)))
   event_goes (SealTo b secret) sound h =
       by_seal (Goes (SealTo b secret) v) (policy_of b) secret s (λ _ _. tie) (λ _. stays _ _ refl refl refl refl (λ _ k. k) (λ _ k. k))
@@ -181,48 +185,73 @@ sound_stays (SealTo b secret) w more h = (sound_on w (hashed_world more w) (λ _
 sound_stays (SealPin handle pin) w more h = h
 sound_stays (Other c) w more h = tt
 
--- the tie of strings is a part of the whole
-pub sealed_from : (s : Parts) (w : World) → WholeTie s w → SealedTie s w
-sealed_from s w whole = record {
-  base = whole.base;
-  sessions = all_map (IsTiedSession s w) (IsHashedSession s w) (hashed_session s w) s.sessions whole.sessions;
-  filed = whole.filed;
-}
-
-tied_sessions : (s : Parts) (w : World) (xs : List Session) → AllByRecursion (IsHashedSession s w) xs → AllByRecursion (HasReads w) xs → AllByRecursion (IsTiedSession s w) xs
-tied_sessions s w [] all reads = tt
-tied_sessions s w (x ∷ xs) all reads = (tied_session s w x all.0 reads.0, tied_sessions s w xs all.1 reads.1)
-
--- an event leaves the state and the world hanging together in all parts, where the strings don't clash
--- and no stranger presented a pin of a policy
-pub whole_after : (event : Event) (s : Parts) (w : World) → HasRules s → IsSoundEvent event w → KnowsPins w → WholeTie s w
-    → Clean (world_after event s w) → Safe (world_after event s w) → WholeTie (respond (command_of event) s).1 (world_after event s w)
-whole_after event s w rules sound known whole clean safe =
-    let more = event_strings event s in
-    let v = hashed_world more w in
-    let r = respond (command_of event) s in
-    let after = world_after event s w in
-    let safe_now : Safe v = subst (λ (xs : List HashedString). NoClash (Contains xs)) (hashed_stays event r.0 r.1 v) safe in
-    let sealed : SealedTie r.1 after = tie_from r.1 after (steady_after event s w (fair_from event w sound) (steady_from s w rules (sealed_from s w whole))) in
-    let grows : GrowsAll w v = record { strings = λ x k. Contains-append_left w.hashed more x k; pins = λ _ k. k; strange = λ _ k. k; writes = λ _ k. k } in
-    let tie : TiedIndices s v = indices_same s s w v rules known refl refl refl refl (λ _ k. k) (λ _ k. k) whole.indices in
-    let before : AreRead v s = reads_on w v grows s.sessions (all_map (IsTiedSession s w) (HasReads w) (session_reads s w) s.sessions whole.sessions) in
-    let reads : AreRead v r.1 = reads_after (command_of event) s v rules tie (command_hashed event s w) before in
-    record {
-      base = sealed.base;
-      indices = event_goes s v rules known safe_now (tied_hashed s w more whole.base) tie event (sound_stays event w more sound) (command_hashed event s w) clean;
-      sessions = tied_sessions r.1 after r.1.sessions sealed.sessions (reads_on v after (grows_accepted event r.0 r.1 v) r.1.sessions reads);
-      filed = sealed.filed;
-    }
-
--- and the pin of each update is still known
+-- the pin of each update is still known after an event
 pub known_after : (event : Event) (s : Parts) (w : World) → KnowsPins w → KnowsPins (world_after event s w)
 known_after event s w known =
     let r = respond (command_of event) s in
     known_accepted event r.0 r.1 (hashed_world (event_strings event s) w) known
 
--- and the handles in bindings have 32 bits still
+-- and the handles in bindings have 32 bits
 pub ranges_after : (event : Event) (s : Parts) (w : World) → IsSoundEvent event w → HasRanges w → HasRanges (world_after event s w)
 ranges_after event s w sound ranges =
     let r = respond (command_of event) s in
     ranged_accepted event r.0 r.1 (hashed_world (event_strings event s) w) w sound ranges
+
+-- the indices hang together with a world that has more strings
+more_strings : (s : Parts) (w : World) (more : List HashedString) → Orderly s → KnowsPins w → TiedIndices s w → TiedIndices s (hashed_world more w)
+more_strings s w more orderly known tie = indices_same s s w (hashed_world more w) orderly known refl refl refl refl (λ _ k. k) (λ _ k. k) tie
+
+-- an event leaves the state and the world hanging together in all that sessions don't touch, where the
+-- strings don't clash and no stranger presented a pin of a policy
+pub own_after : (event : Event) (s : Parts) (w : World) → Orderly s → IsSoundEvent event w → OwnTie s w
+    → Clean (world_after event s w) → Safe (world_after event s w) → OwnTie (respond (command_of event) s).1 (world_after event s w)
+own_after event s w orderly sound own clean safe =
+    let more = event_strings event s in
+    let v = hashed_world more w in
+    let r = respond (command_of event) s in
+    let after = world_after event s w in
+    let safe_now : Safe v = subst (λ (xs : List HashedString). NoClash (Contains xs)) (hashed_stays event r.0 r.1 v) safe in
+    let tied : Tied s v = tied_hashed s w more own.base in
+    record {
+      base = tied_goes event s v orderly.objects (fair_on event w more (fair_from event w sound)) (all_hashed w more) tied;
+      indices = event_goes s v orderly own.known safe_now tied (more_strings s w more orderly own.known own.indices) event (sound_stays event w more sound) (command_hashed event s w) clean;
+      filed = subst (IsFiledHashed after) (sym (filed_stays event r.0 r.1 v)) (filed_on w after (grows_after event s w) w.filed own.filed);
+      known = known_after event s w own.known;
+      ranges = ranges_after event s w sound own.ranges;
+    }
+
+-- what is kept of the sessions: each is good, and what it read is tied
+pub record SteadySessions (s : Parts) (w : World) : Type 0 where
+  pub good : AreGood w s
+  pub reads : AreRead w s
+
+-- an event keeps it, whether or not strings clash
+pub sessions_after : (event : Event) (s : Parts) (w : World) → Orderly s → KnowsPins w → TiedIndices s w → SteadySessions s w
+    → SteadySessions (respond (command_of event) s).1 (world_after event s w)
+sessions_after event s w orderly known tie sessions =
+    let more = event_strings event s in
+    let v = hashed_world more w in
+    let r = respond (command_of event) s in
+    let after = world_after event s w in
+    let grows : GrowsAll w v = record { strings = λ x k. Contains-append_left w.hashed more x k; pins = λ _ k. k; strange = λ _ k. k; writes = λ _ k. k } in
+    let rest : GrowsAll v after = grows_accepted event r.0 r.1 v in
+    let before : AreRead v s = reads_on w v grows s.sessions sessions.reads in
+    let reads : AreRead v r.1 = reads_after (command_of event) s v orderly (more_strings s w more orderly known tie) (command_hashed event s w) before in
+    record {
+      good = good_after event s w sessions.good;
+      reads = reads_on v after rest r.1.sessions reads;
+    }
+
+-- from the rules and the tie, and back
+pub sessions_from : (s : Parts) (w : World) → HasRules s → AllByRecursion (IsTiedSession s w) s.sessions → SteadySessions s w
+sessions_from s w rules all = record {
+  good = good_all s w s.sessions (sessions_kept s rules) (all_map (IsTiedSession s w) (IsHashedSession s w) (hashed_session s w) s.sessions all);
+  reads = all_map (IsTiedSession s w) (HasReads w) (session_reads s w) s.sessions all;
+}
+
+pub tied_sessions : (s : Parts) (w : World) → SteadySessions s w → AllByRecursion (IsTiedSession s w) s.sessions
+tied_sessions s w k = each s.sessions k.good k.reads
+  where
+    each : (xs : List Session) → AllByRecursion (IsGood s w) xs → AllByRecursion (HasReads w) xs → AllByRecursion (IsTiedSession s w) xs
+    each [] good reads = tt
+    each (x ∷ xs) good reads = (tied_session s w x (hashed_from s w x good.0) reads.0, each xs good.1 reads.1)

@@ -1,13 +1,14 @@
 -- What the tie of indices, writes and reads asks of events, and of the world before them.
 use Rattle.std.specs.Prelude.{◌≡◌, ℕ, ◌^◌, ◌<◌, List, [], ◌∷◌, Contains, Some}
 use Rattle.std.specs.FinMap.{get}
+use Rattle.std.specs.List.{AllByRecursion}
 use Rattle.tpm_model.specs.declared.parts.Parts.{Parts}
 use Rattle.tpm_model.specs.Binding.{Binding, Index, Literal}
 use Rattle.tpm_model.specs.Events.{Event, Update, Define, SealTo, SealPin, Other, command_of, world_after}
 use Rattle.tpm_model.specs.Respond.{respond}
-use Rattle.tpm_model.specs.Tied.{IsSoundBinding}
+use Rattle.tpm_model.specs.Tied.{IsSoundBinding, Tied}
 use Rattle.tpm_model.specs.ValidTable.{IsValidTable}
-use Rattle.tpm_model.specs.WholeTie.{WholeTie}
+use Rattle.tpm_model.specs.WholeTie.{IsFiledHashed, IsTiedSession, TiedIndices}
 use Rattle.tpm_model.specs.World.{BoundObject, PolicyUpdate, World}
 
 -- the handle of an index binding has 32 bits
@@ -37,9 +38,17 @@ KnowsPins w = (update : PolicyUpdate) → Contains w.writes update → Contains 
 abbrev pub HasRanges : World → Type 0
 HasRanges w = (handle : ℕ) (bound : BoundObject) → get w.objects handle ≡ Some bound → IsRanged bound.binding
 
--- the state and the world hang together in all parts, the pin of each update is known, and the handles
--- in bindings have 32 bits
-pub record FullTie (s : Parts) (w : World) : Type 0 where
-  pub whole : WholeTie s w
+-- the state and the world hang together in all that sessions don't touch: the objects, the indices with
+-- the updates, and the strings of what the policy file states; the pin of each update is known, and the
+-- handles in bindings have 32 bits
+pub record OwnTie (s : Parts) (w : World) : Type 0 where
+  pub base : Tied s w
+  pub indices : TiedIndices s w
+  pub filed : IsFiledHashed w w.filed
   pub known : KnowsPins w
   pub ranges : HasRanges w
+
+-- and so do the sessions with what they read
+pub record FullTie (s : Parts) (w : World) : Type 0 where
+  pub own : OwnTie s w
+  pub sessions : AllByRecursion (IsTiedSession s w) s.sessions

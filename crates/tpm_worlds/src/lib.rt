@@ -4,7 +4,7 @@
 #![tactic(auto)]
 
 mod stepping;
-#[cfg(test)]
-mod tests;
+mod unused;
 
 pub use crate::stepping::step_all;
+pub use crate::unused::fresh_state;

@@ -7,7 +7,7 @@ ghost use Rattle.tpm_model.specs.World.{World};
 ghost use Rattle.tpm_worlds.specs.CommandLists.{responses_to, state_after};
 ghost use Rattle.tpm_worlds.specs.EventLists.{AreFair, EachOpensByValue, Safe, world_after_all};
 ghost use Rattle.tpm_worlds.specs.SealedTie.{SealedTie};
-ghost use Rattle.tpm_worlds.specs.WholeEvents.{AreSoundEvents, FullTie};
+ghost use Rattle.tpm_worlds.specs.WholeEvents.{AreSoundEvents, FullTie, OwnTie};
 
 use pl_base::{List, Memory};
 use std::alloc::Global;
@@ -44,11 +44,12 @@ fn step_next(
 /// Executes the commands in order, and gives the answer to each.
 ///
 /// Whoever sent them, the program or anyone (each list of events that has these commands, on a world that
-/// hangs together with the state, in which no two strings that were hashed have one digest): each Unseal of
+/// hangs together with the state, in which no two strings that were hashed have one digest, where the program
+/// seals to pins of policies and to policies' hashes, and writes roots of valid tables): each Unseal of
 /// an object that the program bound to one value of one PCR answers the object's own bytes, and only where
 /// the PCR holds that value at that very step. The world afterwards hangs together with the state that is
-/// left; with its indices, the program's updates and what sessions read of them too, where no stranger
-/// presented a pin of a policy.
+/// left; with its indices and the program's updates too, whatever the sessions are, and with what sessions
+/// read of them, where no stranger presented a pin of a policy.
 ///
 /// # Errors
 ///
@@ -66,6 +67,9 @@ pub fn step_all(
         → AreFair events state.old w → Safe (world_after_all events state.old w) → EachOpensByValue events state.old w }
     ensures kept { IfOk result (λ _. (events : Sequence Event) (w : World) → map command_of events ≡ commands.now → SealedTie state.old w
         → AreFair events state.old w → SealedTie state.new (world_after_all events state.old w)) }
+    ensures own { IfOk result (λ _. (events : Sequence Event) (w : World) → map command_of events ≡ commands.now → OwnTie state.old w
+        → AreSoundEvents events state.old w → Clean (world_after_all events state.old w) → Safe (world_after_all events state.old w)
+        → OwnTie state.new (world_after_all events state.old w)) }
     ensures whole { IfOk result (λ _. (events : Sequence Event) (w : World) → map command_of events ≡ commands.now → FullTie state.old w
         → AreSoundEvents events state.old w → Clean (world_after_all events state.old w) → Safe (world_after_all events state.old w)
         → FullTie state.new (world_after_all events state.old w)) }

@@ -1,12 +1,13 @@
 use Rattle.std.proofs.Common.{inl, inr, ◌+◌, ◌<◌, length, sym, ap, ◌∙◌, subst, arith}
 use Rattle.std.proofs.lemmas.List.{take_all}
+use Rattle.tpm_model.proofs.FromRules.{orderly_from}
 use Rattle.tpm_worlds.specs.CommandLists.{state_after}
 use Rattle.tpm_worlds.specs.EventLists.{world_after_all}
 use Rattle.tpm_worlds.specs.SealedTie.{SealedTie}
-use Rattle.tpm_worlds.specs.WholeEvents.{FullTie}
+use Rattle.tpm_worlds.specs.WholeEvents.{FullTie, OwnTie}
 use Rattle.tpm_worlds.proofs.CommandLists.{responses_next, state_next}
 use Rattle.tpm_worlds.proofs.EachUnseal.{each_unseal, tie_after_all}
-use Rattle.tpm_worlds.proofs.WholeLists.{AreRuled, full_after_all, ruled_next}
+use Rattle.tpm_worlds.proofs.WholeLists.{full_after_all, own_after_all}
 use Rattle.tpm_worlds.proofs.stepping.step_all.Goals as goal
 
 pub returns-in-Err-clause-stopped : goal.returns-in-Err-clause-stopped
@@ -30,7 +31,6 @@ loop-command-preserved c =
     let so_far = c.loop-command.invariant in
     record {
       rules = c.in-Ok.ensures.rules.1;
-      ruled = ruled_next commands i item c.args.state.now c.loop-command.state c.step_next.new.state within c.command-item.is so_far.left c.in-Ok.ensures.left c.in-Ok.ensures.rules.1 so_far.ruled;
       told = c.in-Ok.ensures.answered ∙ responses_next commands i item c.args.state.now c.loop-command.state c.loop-command.responses within c.command-item.is so_far.left so_far.told;
       left = c.in-Ok.ensures.left ∙ state_next commands i item c.args.state.now c.loop-command.state within c.command-item.is so_far.left;
     }
@@ -45,9 +45,16 @@ returns-clause-kept c = λ events w same tie fair.
     ∙ sym (c.loop-command.invariant.left ∙ ap (λ commands. state_after commands c.args.state.now) (take_all c.loop-command.command-index c.args.commands.now c.loop-command-test.false)))
     (tie_after_all events c.args.state.now w c.pcrs-pcrs.ensures.rules tie fair)
 
+pub returns-clause-own : goal.returns-clause-own
+returns-clause-own c = λ events w same tie sound clean safe.
+    let every = take_all c.loop-command.command-index c.args.commands.now c.loop-command-test.false in
+    subst (λ s. OwnTie s (world_after_all events c.args.state.now w))
+    (ap (λ commands. state_after commands c.args.state.now) same ∙ sym (c.loop-command.invariant.left ∙ ap (λ commands. state_after commands c.args.state.now) every))
+    (own_after_all events c.args.state.now w (orderly_from c.args.state.now c.pcrs-pcrs.ensures.rules) sound tie clean safe)
+
 pub returns-clause-whole : goal.returns-clause-whole
 returns-clause-whole c = λ events w same tie sound clean safe.
     let every = take_all c.loop-command.command-index c.args.commands.now c.loop-command-test.false in
     subst (λ s. FullTie s (world_after_all events c.args.state.now w))
     (ap (λ commands. state_after commands c.args.state.now) same ∙ sym (c.loop-command.invariant.left ∙ ap (λ commands. state_after commands c.args.state.now) every))
-    (full_after_all events c.args.state.now w c.pcrs-pcrs.ensures.rules (subst (λ commands. AreRuled commands c.args.state.now) (every ∙ sym same) c.loop-command.invariant.ruled) sound tie clean safe)
+    (full_after_all events c.args.state.now w c.pcrs-pcrs.ensures.rules sound tie clean safe)
