@@ -2,6 +2,7 @@ pub mod Splits
 pub mod Numbers
 pub mod Sizes
 pub mod Walks
+pub mod Updates
 pub mod Utf8
 pub mod Texts
 pub mod Sessions

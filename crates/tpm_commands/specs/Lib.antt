@@ -4,6 +4,8 @@ pub mod Digests
 pub mod Verbs
 pub mod CommandLine
 pub mod File
+pub mod Clients
+pub mod Events
 pub mod Walk
 pub mod Plain
 pub mod Left

@@ -1,73 +1,30 @@
 //! A file of commands.
-ghost use Rattle.std.specs.Prelude.{◌≡◌, [], ◌∷◌, ◌++◌, OnOk};
+ghost use Rattle.std.specs.Prelude.{◌≡◌};
 ghost use Rattle.tpm_commands.specs.Answers.{Gives};
-ghost use Rattle.tpm_commands.specs.File.{commands_of, line_of, lines_of, spelled};
-ghost use Rattle.tpm_commands.specs.Walk.{commands_from, taken};
+ghost use Rattle.tpm_commands.specs.File.{commands_of};
 
-use crate::{CommandsError, next_line, passes_over, read_command};
+use crate::grammar::Grammar;
+use crate::lines::read_lines;
+use crate::{CommandsError, read_command};
 use pl_base::{List, Memory};
 use std::alloc::Global;
-use std::str;
 use tpm_model::Command;
 
-// How many lines a file may have.
-const LINE_LIMIT: u32 = 65_536;
+// Each line spells a command.
+#[derive(Clone, Copy)]
+struct CommandLines;
 
-// Puts a copy of an item at the end of a list.
-fn append<T: Copy>(items: &mut List<T>, item: &T) -> Result<(), Memory>
-    ensures { OnOk result (items.new ≡ items.old ++ item.now ∷ []) }
-{
-    items.push(*item)
-}
+impl Grammar for CommandLines {
+    ghost use Rattle.tpm_commands.specs.CommandLine.{command_of};
 
-// Puts the command that a line spells at the end; the line has this place in the file.
-fn take_command(
-    commands: &mut List<Command>,
-    place: u32,
-    found: &Option<Command>,
-) -> Result<(), CommandsError>
-    ensures { Gives (λ _. commands.new) result (taken place commands.old (spelled found.now)) }
-{
-    match found {
-        Some(command) => Ok(append(commands, command)?),
-        None => Err(CommandsError::BadLine(place)),
-    }
-}
+    type Item = Command;
 
-// Puts the command of a line at the end, if it isn't passed over; it has this place in the file.
-#[tactic(auto, unfolding(crate::specs::File::line_of))]
-fn take_line(commands: &mut List<Command>, place: u32, line: &[u8]) -> Result<(), CommandsError>
-    ensures { Gives (λ _. commands.new) result (taken place commands.old (line_of line.now)) }
-{
-    if passes_over(line) {
-        return match str::from_utf8(line) {
-            Ok(_) => Ok(()),
-            Err(_) => Err(CommandsError::BadLine(place)),
-        };
-    }
-    take_command(commands, place, &read_command(line))
-}
+    ghost spells = { λ _ line. command_of line };
 
-// The commands of a text's lines, of which there may be this many.
-fn read_lines(alloc: Global, text: &[u8], limit: u32) -> Result<List<Command>, CommandsError>
-    ensures { Gives (λ commands. commands) result (commands_from 0 limit [] (lines_of text.now)) }
-{
-    let mut commands = List::new(alloc);
-    let mut rest = text;
-    for place in 0..limit {
-        if rest.is_empty() {
-            return Ok(commands);
-        }
-        let (line, behind) = next_line(rest);
-        match take_line(&mut commands, place, line) {
-            Ok(()) => rest = behind,
-            Err(error) => return Err(error),
-        }
-    }
-    if rest.is_empty() {
-        Ok(commands)
-    } else {
-        Err(CommandsError::TooMany)
+    ghost behind = { λ grammar _. grammar };
+
+    fn read(&mut self, _alloc: Global, line: &[u8]) -> Result<Option<Command>, Memory> {
+        Ok(read_command(line))
     }
 }
 
@@ -82,5 +39,5 @@ fn read_lines(alloc: Global, text: &[u8], limit: u32) -> Result<List<Command>, C
 pub fn read_commands(alloc: Global, bytes: &[u8]) -> Result<List<Command>, CommandsError>
     ensures { Gives (λ commands. commands) result (commands_of bytes.now) }
 {
-    read_lines(alloc, bytes, LINE_LIMIT)
+    read_lines(alloc, &mut CommandLines, bytes)
 }

@@ -1,23 +1,29 @@
-//! The commands of the TPM and its answers as lines of text: a file of commands is read, one a line, and
-//! each answer has a line that tells it.
+//! The commands of the TPM and its answers as lines of text: a file of commands is read, one a line, as are
+//! the events of a race and the commands of several clients, and each answer has a line that tells it.
 #![tactic(auto)]
 
+mod clients;
 mod command;
 mod digests;
 mod error;
+mod event;
+mod events;
 mod file;
+mod grammar;
 mod group;
 mod line;
+mod lines;
 mod parts;
 mod response;
-#[cfg(test)]
-mod tests;
 mod values;
 mod verb;
 mod words;
 
+pub use crate::clients::read_client_commands;
 pub use crate::command::read_command;
 pub use crate::error::CommandsError;
+pub use crate::event::EventLine;
+pub use crate::events::read_events;
 pub use crate::file::read_commands;
 pub use crate::line::{next_line, passes_over};
 pub use crate::parts::cut;

@@ -14,12 +14,12 @@ mod kept;
 mod layout;
 mod objects;
 mod sessions;
-#[cfg(test)]
-mod tests;
 mod version;
 
 pub use crate::decoding::decode;
 pub use crate::encoding::encode;
 pub use crate::error::DecodeError;
 pub use crate::file_tpm::FileTpm;
-pub use tpm_commands::{CommandsError, read_commands, response_line};
+pub use tpm_commands::{
+    CommandsError, EventLine, read_client_commands, read_commands, read_events, response_line,
+};
