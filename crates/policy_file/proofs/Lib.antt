@@ -5,4 +5,5 @@ pub mod Pairs
 pub mod RowLaws
 pub mod TableLaws
 pub mod Policies
+pub mod Sizes
 pub mod Loops

@@ -1,5 +1,5 @@
 -- The two laws of the token file: what is read is spelled so, and what is spelled so is read.
-use Rattle.std.proofs.Common.{◌≡◌, ℕ, ◌+◌, ◌≤◌, Bool, true, false, cond, eqb, ltb, leb, ◌&&◌, List, [], ◌∷◌, ◌++◌, length, take, drop, Some, None, Result, Ok, Err, refl, sym, ap, subst, ◌∙◌, ◌⊎◌, arith, inl, inr}
+use Rattle.std.proofs.Common.{◌≡◌, ℕ, ◌+◌, ◌-◌, ◌≤◌, Bool, true, false, cond, eqb, ltb, leb, ◌&&◌, List, [], ◌∷◌, ◌++◌, length, take, drop, Some, None, Result, Ok, Err, refl, sym, ap, subst, ◌∙◌, ◌⊎◌, arith, inl, inr}
 use Rattle.std.specs.Prelude.{IfOk}
 use Rattle.std.specs.Global.{Vec}
 use Rattle.pl_base.specs.declared.memory.Memory.{Memory}
@@ -8,7 +8,7 @@ use Rattle.std.specs.Str.{bytes_eq}
 use Rattle.std.proofs.lemmas.Slice.Eq.{bytes_eq-Decides}
 use Rattle.std.proofs.lemmas.Bool.{le-ltb, leb-true, le-leb, eqb-true}
 use Rattle.std.proofs.lemmas.Bool.Decides.{Decides-eqb}
-use Rattle.std.proofs.lemmas.List.{take_all}
+use Rattle.std.proofs.lemmas.List.{nil_from_length, take_all}
 use Rattle.std.proofs.Math.ListN.{length-drop}
 use Rattle.std.proofs.lemmas.Nat.{from_be_bytes-to_be_bytes_4}
 use Rattle.hash_bank.specs.declared.bank.Bank.{Bank}
@@ -16,12 +16,14 @@ use Rattle.hash_bank.specs.declared.bank.Bank.TheVariants.{Sha1, Sha256, Sha384,
 use Rattle.hash_bank.specs.Hash.{size_in, algorithm_in, bank_of_algorithm}
 use Rattle.policy_file.specs.declared.error.FileKind.TheVariants.{Magic, Value, Trailing}
 use Rattle.policy_file.specs.declared.error.FileError.{FileError}
+use Rattle.policy_file.specs.declared.token.Kind.{Kind}
+use Rattle.policy_file.specs.declared.token.Kind.TheVariants as kinds
 use Rattle.policy_file.specs.declared.token.Literal.{Literal}
 use Rattle.policy_file.specs.declared.token.Token.{Token}
 use Rattle.policy_file.specs.declared.token.Token.TheVariants as token
 use Rattle.policy_file.specs.Field.{◌>>=◌, field_at, number_at, tested, found}
-use Rattle.policy_file.specs.TokenText.{token_magic, IsObject, IsLiteral, IsToken, NamesLiteral, literal_kind, literal_text, token_text}
-use Rattle.policy_file.specs.TokenReading.{hash_of, magic_in, object_in, hash_in, bank_in, pcr_in, value_in, literal_in, token_in}
+use Rattle.policy_file.specs.TokenText.{token_magic, IsObject, IsLiteral, IsToken, literal_kind, literal_text, token_text}
+use Rattle.policy_file.specs.TokenReading.{kind_of, magic_in, object_in, kind_in, bank_in, pcr_in, value_in, literal_in, said_in, token_in}
 use Rattle.policy_file.proofs.Fields.{IsBytes, bind_ok, tested_ok, found_ok, ok_is, HasField, HasField-then, field_has, length-field, number_8_has, number_16_has, number_32_has}
 
 -- ---- what is read is spelled so
@@ -57,22 +59,40 @@ chosen : {A : Type 0} (b : Bool) (x y z : A) → cond b x y ≡ z → ((b ≡ tr
 chosen true x y z e = inl (refl, e)
 chosen false x y z e = inr (refl, e)
 
-hash_is : (kind : ℕ) (hash : Bank) → hash_of kind ≡ Some hash → (kind ≡ literal_kind hash) × IsSessionHash hash
-hash_is kind hash e =
-    elim (chosen (eqb kind 1) (Some Sha256) (cond (eqb kind 2) (Some Sha384) None) (Some hash) e) [
-      | inl t ↦ let is : Sha256 ≡ hash = cc in (eqb-true kind 1 t.0 ∙ ap literal_kind is, inl (sym is))
-      | inr f ↦ elim (chosen (eqb kind 2) (Some Sha384) None (Some hash) f.1) [
-        | inl t ↦ let is : Sha384 ≡ hash = cc in (eqb-true kind 2 t.0 ∙ ap literal_kind is, inr (sym is))
-        | inr g ↦ absurd cc
+-- a kind of the token file
+abbrev IsKind : Kind → Type 0
+IsKind kinds.Bound = Unit {0}
+IsKind (kinds.Literal hash) = IsSessionHash hash
+
+-- its number
+abbrev number_of : Kind → ℕ
+number_of kinds.Bound = 0
+number_of (kinds.Literal hash) = literal_kind hash
+
+numbered_kind : (number n : ℕ) (k known : Kind) → number_of known ≡ n → IsKind known → eqb number n ≡ true → Some known ≡ Some k → (number ≡ number_of k) × IsKind k
+numbered_kind number n k known has fits is same =
+    let e : known ≡ k = cc in
+    (eqb-true number n is ∙ sym has ∙ ap number_of e, subst IsKind e fits)
+
+kind_is : (number : ℕ) (k : Kind) → kind_of number ≡ Some k → (number ≡ number_of k) × IsKind k
+kind_is number k e =
+    elim (chosen (eqb number 0) (Some kinds.Bound) (cond (eqb number 1) (Some (kinds.Literal Sha256)) (cond (eqb number 2) (Some (kinds.Literal Sha384)) None)) (Some k) e) [
+      | inl t ↦ numbered_kind number 0 k kinds.Bound refl tt t.0 t.1
+      | inr f ↦ elim (chosen (eqb number 1) (Some (kinds.Literal Sha256)) (cond (eqb number 2) (Some (kinds.Literal Sha384)) None) (Some k) f.1) [
+        | inl t ↦ numbered_kind number 1 k (kinds.Literal Sha256) refl (inl refl) t.0 t.1
+        | inr f ↦ elim (chosen (eqb number 2) (Some (kinds.Literal Sha384)) None (Some k) f.1) [
+          | inl t ↦ numbered_kind number 2 k (kinds.Literal Sha384) refl (inr refl) t.0 t.1
+          | inr g ↦ absurd cc
+        ]
       ]
     ]
 
-hash_takes : (bytes : List ℕ) (hash : Bank) → hash_in bytes ≡ Ok hash → HasField bytes 12 1 (literal_kind hash ∷ []) × IsSessionHash hash
-unfolding hash_in
-hash_takes bytes hash e =
-    let b = bind_ok (number_at w8 bytes 12) (λ kind. found 12 Value (hash_of kind)) hash e in
-    let h = hash_is b.0 hash (found_ok 12 Value (hash_of b.0) hash b.2) in
-    (subst (λ (k : ℕ). HasField bytes 12 1 (k ∷ [])) h.0 (number_8_has bytes 12 b.0 b.1), h.1)
+kind_takes : (bytes : List ℕ) (k : Kind) → kind_in bytes ≡ Ok k → HasField bytes 12 1 (number_of k ∷ []) × IsKind k
+unfolding kind_in
+kind_takes bytes k e =
+    let b = bind_ok (number_at w8 bytes 12) (λ number. found 12 Value (kind_of number)) k e in
+    let h = kind_is b.0 k (found_ok 12 Value (kind_of b.0) k b.2) in
+    (subst (λ (n : ℕ). HasField bytes 12 1 (n ∷ [])) h.0 (number_8_has bytes 12 b.0 b.1), h.1)
 
 numbered : (number n : ℕ) (bank known : Bank) → algorithm_in known ≡ n → eqb number n ≡ true → Some known ≡ Some bank → number ≡ algorithm_in bank
 numbered number n bank known has is same = let k : known ≡ bank = cc in eqb-true number n is ∙ sym has ∙ ap algorithm_in k
@@ -136,26 +156,51 @@ literal_takes bytes hash l fits known e =
     subst (λ (k : Literal). (k.hash ≡ hash) × IsLiteral k × (drop 13 bytes ≡ literal_text k)) (ok_is made l c.2)
     (refl, record { hash = known; pcr = pcr.1; value = value.1 }, text)
 
-pub token_takes : (bytes : List ℕ) (t : Token) → IsBytes bytes → token_in bytes ≡ Ok t → IsToken t × NamesLiteral t × (bytes ≡ token_text t)
+-- the magic and the handle stand before the kind
+abbrev behind_front : List ℕ → ℕ → Type 0
+behind_front bytes object = bytes ≡ token_magic ++ (to_be_bytes w32 object ++ drop 12 bytes)
+
+bound_takes : (bytes : List ℕ) (object : ℕ) (t : Token) → IsObject object → behind_front bytes object → HasField bytes 12 1 (0 ∷ [])
+    → said_in bytes object kinds.Bound ≡ Ok t → IsToken t × (bytes ≡ token_text t)
+unfolding said_in
+bound_takes bytes object t is front kind e =
+    let ends = tested_ok 13 Trailing (eqb (length bytes) 13) (token.Bound object) t e in
+    let none : drop 13 bytes ≡ [] = nil_from_length (drop 13 bytes) (length-drop 13 bytes ∙ ap (λ (n : ℕ). n - 13) (eqb-true (length bytes) 13 ends.0)) in
+    let text : bytes ≡ token_text (token.Bound object) =
+    front ∙ ap (λ (x : List ℕ). token_magic ++ (to_be_bytes w32 object ++ x)) (HasField-then bytes 12 1 (0 ∷ []) kind ∙ ap (λ (x : List ℕ). 0 ∷ x) none) in
+    subst (λ (k : Token). IsToken k × (bytes ≡ token_text k)) ends.1 (is, text)
+
+named_takes : (bytes : List ℕ) (object : ℕ) (hash : Bank) (t : Token) → IsBytes bytes → IsObject object → IsSessionHash hash → behind_front bytes object
+    → HasField bytes 12 1 (literal_kind hash ∷ []) → said_in bytes object (kinds.Literal hash) ≡ Ok t → IsToken t × (bytes ≡ token_text t)
+unfolding said_in
+named_takes bytes object hash t fits is known front kind e =
+    let d = bind_ok (literal_in bytes hash) (λ literal. Ok (token.Literal object literal)) t e in
+    let literal = literal_takes bytes hash d.0 fits known d.1 in
+    let rest : drop 12 bytes ≡ literal_kind d.0.hash ∷ literal_text d.0 =
+    HasField-then bytes 12 1 (literal_kind hash ∷ []) kind
+    ∙ ap (λ (x : List ℕ). literal_kind hash ∷ x) literal.2 ∙ ap (λ (h : Bank). literal_kind h ∷ literal_text d.0) (sym literal.0) in
+    let text : bytes ≡ token_text (token.Literal object d.0) = front ∙ ap (λ (x : List ℕ). token_magic ++ (to_be_bytes w32 object ++ x)) rest in
+    subst (λ (k : Token). IsToken k × (bytes ≡ token_text k)) (ok_is (token.Literal object d.0) t d.2) ((is, literal.1), text)
+
+said_takes : (bytes : List ℕ) (object : ℕ) (k : Kind) (t : Token) → IsBytes bytes → IsObject object → IsKind k → behind_front bytes object
+    → HasField bytes 12 1 (number_of k ∷ []) → said_in bytes object k ≡ Ok t → IsToken t × (bytes ≡ token_text t)
+said_takes bytes object kinds.Bound t fits is known front kind e = bound_takes bytes object t is front kind e
+said_takes bytes object (kinds.Literal hash) t fits is known front kind e = named_takes bytes object hash t fits is known front kind e
+
+pub token_takes : (bytes : List ℕ) (t : Token) → IsBytes bytes → token_in bytes ≡ Ok t → IsToken t × (bytes ≡ token_text t)
 unfolding token_in
 token_takes bytes t fits e =
-    let a = bind_ok (magic_in bytes) (λ checked. object_in bytes >>= λ object. hash_in bytes >>= λ hash. literal_in bytes hash >>= λ literal. Ok (token.Literal object literal)) t e in
-    let b = bind_ok (object_in bytes) (λ object. hash_in bytes >>= λ hash. literal_in bytes hash >>= λ literal. Ok (token.Literal object literal)) t a.2 in
-    let c = bind_ok (hash_in bytes) (λ hash. literal_in bytes hash >>= λ literal. Ok (token.Literal b.0 literal)) t b.2 in
-    let d = bind_ok (literal_in bytes c.0) (λ literal. Ok (token.Literal b.0 literal)) t c.2 in
+    let a = bind_ok (magic_in bytes) (λ checked. object_in bytes >>= λ object. kind_in bytes >>= λ k. said_in bytes object k) t e in
+    let b = bind_ok (object_in bytes) (λ object. kind_in bytes >>= λ k. said_in bytes object k) t a.2 in
+    let c = bind_ok (kind_in bytes) (λ k. said_in bytes b.0 k) t b.2 in
     let magic = magic_takes bytes a.0 a.1 in
     let object = object_takes bytes b.0 fits b.1 in
-    let hash = hash_takes bytes c.0 c.1 in
-    let literal = literal_takes bytes c.0 d.0 fits hash.1 d.1 in
-    let kind : drop 12 bytes ≡ literal_kind d.0.hash ∷ literal_text d.0 =
-    HasField-then bytes 12 1 (literal_kind c.0 ∷ []) hash.0
-    ∙ ap (λ (x : List ℕ). literal_kind c.0 ∷ x) literal.2 ∙ ap (λ (h : Bank). literal_kind h ∷ literal_text d.0) (sym literal.0) in
-    let text : bytes ≡ token_text (token.Literal b.0 d.0) =
-    HasField-then bytes 0 8 token_magic magic
-    ∙ ap (λ (x : List ℕ). token_magic ++ x) (HasField-then bytes 8 4 (to_be_bytes w32 b.0) object.0 ∙ ap (λ (x : List ℕ). to_be_bytes w32 b.0 ++ x) kind) in
-    subst (λ (k : Token). IsToken k × NamesLiteral k × (bytes ≡ token_text k)) (ok_is (token.Literal b.0 d.0) t d.2) ((object.1, literal.1), tt, text)
+    let kind = kind_takes bytes c.0 c.1 in
+    let front : behind_front bytes b.0 =
+    HasField-then bytes 0 8 token_magic magic ∙ ap (λ (x : List ℕ). token_magic ++ x) (HasField-then bytes 8 4 (to_be_bytes w32 b.0) object.0) in
+    said_takes bytes b.0 c.0 t fits object.1 kind.1 front kind.0 c.2
 
-pub is_spelled : (bytes : List ℕ) (r : Result Token FileError) → IsBytes bytes → r ≡ token_in bytes → IfOk r (λ t. IsToken t × NamesLiteral t × (bytes ≡ token_text t))
+pub is_spelled : (bytes : List ℕ) (r : Result Token FileError) → IsBytes bytes → r ≡ token_in bytes → IfOk r (λ t. IsToken t × (bytes ≡ token_text t))
 is_spelled bytes (Ok t) fits is = token_takes bytes t fits (sym is)
 is_spelled bytes (Err e) fits is = tt
 
@@ -178,15 +223,19 @@ object_again object rest is =
     let long : ltb (length (behind object rest)) 12 ≡ false = le-ltb _ _ (omega arith) in
     rw (long, from_be_bytes-to_be_bytes_4 object (omega arith), range_holds 0x81000000 object 0x817FFFFF is.0 is.1) refl
 
-hash_again : (object : ℕ) (hash : Bank) (rest : List ℕ) → IsSessionHash hash → hash_in (behind object (literal_kind hash ∷ rest)) ≡ Ok hash
-unfolding hash_in
+bound_again : (object : ℕ) → kind_in (behind object (0 ∷ [])) ≡ Ok kinds.Bound
+unfolding kind_in
+bound_again object = refl
+
+hash_again : (object : ℕ) (hash : Bank) (rest : List ℕ) → IsSessionHash hash → kind_in (behind object (literal_kind hash ∷ rest)) ≡ Ok (kinds.Literal hash)
+unfolding kind_in
 hash_again object hash rest (inl is) =
     let long : ltb (length (behind object (1 ∷ rest))) 13 ≡ false = le-ltb _ _ (omega arith) in
-    let at : hash_in (behind object (1 ∷ rest)) ≡ Ok Sha256 = rw long refl in
+    let at : kind_in (behind object (1 ∷ rest)) ≡ Ok (kinds.Literal Sha256) = rw long refl in
     rw is at
 hash_again object hash rest (inr is) =
     let long : ltb (length (behind object (2 ∷ rest))) 13 ≡ false = le-ltb _ _ (omega arith) in
-    let at : hash_in (behind object (2 ∷ rest)) ≡ Ok Sha384 = rw long refl in
+    let at : kind_in (behind object (2 ∷ rest)) ≡ Ok (kinds.Literal Sha384) = rw long refl in
     rw is at
 
 -- each bank is found by its number, wherever the number stands
@@ -220,17 +269,21 @@ literal_again object l is =
     let value : value_in text l.bank ≡ Ok l.value = value_again object (literal_kind l.hash) (algorithm_in l.bank) l.pcr l.bank l.value is.value in
     rw (bank, pcr, value) refl
 
-pub token_again : (t : Token) → IsToken t → NamesLiteral t → token_in (token_text t) ≡ Ok t
-unfolding token_in
-token_again (token.Bound object) is names = absurd names
-token_again (token.Literal object l) is names =
+pub token_again : (t : Token) → IsToken t → token_in (token_text t) ≡ Ok t
+unfolding token_in said_in
+token_again (token.Bound object) is =
+    let magic : magic_in (token_text (token.Bound object)) ≡ Ok tt = magic_again (to_be_bytes w32 object ++ 0 ∷ []) in
+    let handle : object_in (token_text (token.Bound object)) ≡ Ok object = object_again object (0 ∷ []) is in
+    let kind : kind_in (token_text (token.Bound object)) ≡ Ok kinds.Bound = bound_again object in
+    rw (magic, handle, kind) refl
+token_again (token.Literal object l) is =
     let rest = literal_kind l.hash ∷ literal_text l in
     let magic : magic_in (token_text (token.Literal object l)) ≡ Ok tt = magic_again (to_be_bytes w32 object ++ rest) in
     let handle : object_in (token_text (token.Literal object l)) ≡ Ok object = object_again object rest is.0 in
-    let hash : hash_in (token_text (token.Literal object l)) ≡ Ok l.hash = hash_again object l.hash (literal_text l) is.1.hash in
+    let kind : kind_in (token_text (token.Literal object l)) ≡ Ok (kinds.Literal l.hash) = hash_again object l.hash (literal_text l) is.1.hash in
     let literal : literal_in (token_text (token.Literal object l)) l.hash ≡ Ok l = literal_again object l is.1 in
-    rw (magic, handle, hash, literal) refl
+    rw (magic, handle, kind, literal) refl
 
-pub is_read_back : (t : Token) (r : Result (Vec ℕ) Memory) → IsToken t → NamesLiteral t → IfOk r (λ bytes. bytes.items ≡ token_text t) → IfOk r (λ bytes. token_in bytes.items ≡ Ok t)
-is_read_back t (Ok bytes) is names text = ap token_in text ∙ token_again t is names
-is_read_back t (Err e) is names text = tt
+pub is_read_back : (t : Token) (r : Result (Vec ℕ) Memory) → IsToken t → IfOk r (λ bytes. bytes.items ≡ token_text t) → IfOk r (λ bytes. token_in bytes.items ≡ Ok t)
+is_read_back t (Ok bytes) is text = ap token_in text ∙ token_again t is
+is_read_back t (Err e) is text = tt

@@ -7,15 +7,21 @@ use Rattle.hash_bank.specs.declared.bank.Bank.TheVariants.{Sha256, Sha384}
 use Rattle.hash_bank.specs.Hash.{size_in, bank_of_algorithm}
 use Rattle.policy_file.specs.declared.error.FileKind.TheVariants.{Magic, Value, Trailing}
 use Rattle.policy_file.specs.declared.error.FileError.{FileError}
+use Rattle.policy_file.specs.declared.token.Kind.{Kind}
+use Rattle.policy_file.specs.declared.token.Kind.TheVariants as kinds
 use Rattle.policy_file.specs.declared.token.Literal.{Literal}
 use Rattle.policy_file.specs.declared.token.Token.{Token}
 use Rattle.policy_file.specs.declared.token.Token.TheVariants as token
 use Rattle.policy_file.specs.Field.{◌>>=◌, field_at, number_at, tested, found}
 use Rattle.policy_file.specs.TokenText.{token_magic}
 
--- the hash of a literal's kind
-abbrev pub hash_of : ℕ → Option Bank
-hash_of kind = if kind == 1 then Some Sha256 else if kind == 2 then Some Sha384 else None
+-- what a kind's number says
+abbrev pub kind_of : ℕ → Option Kind
+kind_of number =
+    if number == 0 then Some kinds.Bound
+    else if number == 1 then Some (kinds.Literal Sha256)
+    else if number == 2 then Some (kinds.Literal Sha384)
+    else None
 
 unfoldable pub magic_in : List ℕ → Result (Unit {0}) FileError
 magic_in bytes = do
@@ -27,10 +33,10 @@ object_in bytes = do
   object ← number_at w32 bytes 8
   tested 8 Value (nat_le 0x81000000 object && nat_le object 0x817FFFFF) object
 
-unfoldable pub hash_in : List ℕ → Result Bank FileError
-hash_in bytes = do
-  kind ← number_at w8 bytes 12
-  found 12 Value (hash_of kind)
+unfoldable pub kind_in : List ℕ → Result Kind FileError
+kind_in bytes = do
+  number ← number_at w8 bytes 12
+  found 12 Value (kind_of number)
 
 unfoldable pub bank_in : List ℕ → Result Bank FileError
 bank_in bytes = do
@@ -55,10 +61,16 @@ literal_in bytes hash = do
   value ← value_in bytes bank
   Ok (record { hash = hash; bank = bank; pcr = pcr; value = value })
 
+-- the object with what its kind asks for: of a bound one nothing stands behind the kind
+unfoldable pub said_in : List ℕ → ℕ → Kind → Result Token FileError
+said_in bytes object kinds.Bound = tested 13 Trailing (length bytes == 13) (token.Bound object)
+said_in bytes object (kinds.Literal hash) = do
+  literal ← literal_in bytes hash
+  Ok (token.Literal object literal)
+
 unfoldable pub token_in : List ℕ → Result Token FileError
 token_in bytes = do
   checked ← magic_in bytes
   object ← object_in bytes
-  hash ← hash_in bytes
-  literal ← literal_in bytes hash
-  Ok (token.Literal object literal)
+  kind ← kind_in bytes
+  said_in bytes object kind

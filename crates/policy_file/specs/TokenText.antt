@@ -27,11 +27,6 @@ abbrev pub IsToken : Token → Type 0
 IsToken (token.Bound object) = IsObject object
 IsToken (token.Literal object literal) = IsObject object × IsLiteral literal
 
--- a token that names a literal
-abbrev pub NamesLiteral : Token → Type 0
-NamesLiteral (token.Bound object) = ⊥
-NamesLiteral (token.Literal object literal) = Unit {0}
-
 -- 1 for a literal under SHA-256, 2 for one under SHA-384
 abbrev pub literal_kind : Bank → ℕ
 literal_kind Sha384 = 2

@@ -24,8 +24,3 @@ pub use policy_writing::write_policy;
 pub use token::{Literal, Token};
 pub use token_reading::read_token;
 pub use token_writing::write_token;
-
-#[cfg(test)]
-mod policy_tests;
-#[cfg(test)]
-mod tests;

@@ -1,5 +1,5 @@
 //! Writing a policy file.
-ghost use Rattle.std.specs.Prelude.{◌≡◌, ◌++◌, IfOk, OnOk, Ok};
+ghost use Rattle.std.specs.Prelude.{◌≡◌, ◌≤◌, ◌++◌, length, IfOk, OnOk, Ok};
 ghost use Rattle.policy_file.specs.PolicyText.{IsPolicy, body_text, policy_magic, policy_text};
 ghost use Rattle.policy_file.specs.PolicyReading.{policy_in};
 
@@ -56,7 +56,7 @@ fn text_of(alloc: Global, policy: &Policy) -> Result<Vec<u8>, Memory>
 }
 
 /// The text of a policy, in version 2 exactly where some row has several PCRs, else in version 1: the one
-/// that [`crate::read_policy`] reads as it.
+/// that [`crate::read_policy`] reads as it. It has at most 4,194,304 bytes.
 ///
 /// # Errors
 ///
@@ -64,6 +64,8 @@ fn text_of(alloc: Global, policy: &Policy) -> Result<Vec<u8>, Memory>
 pub fn write_policy(alloc: Global, policy: &Policy) -> Result<Vec<u8>, Memory>
     requires { IsPolicy policy.now }
     ensures spelled { IfOk result (λ text. text.items ≡ policy_text policy.now) }
+    // It is no longer than a policy file may be.
+    ensures within { IfOk result (λ text. length text.items ≤ 4194304) }
     ensures reads_back { IfOk result (λ text. policy_in text.items ≡ Ok policy.now) }
 {
     text_of(alloc, policy)

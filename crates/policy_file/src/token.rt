@@ -20,6 +20,15 @@ pub struct Literal {
     pub value: Digest,
 }
 
+/// What a token says beside the object's handle.
+#[derive(Clone, Copy, Debug, PartialEq, Eq)]
+pub(crate) enum Kind {
+    /// Nothing: the object is bound to an index.
+    Bound,
+    /// A literal under the hash.
+    Literal(Bank),
+}
+
 /// Which sealed object holds the key, and what opens it.
 #[derive(Clone, Copy, Debug, PartialEq, Eq)]
 pub enum Token {

@@ -3,12 +3,12 @@
 ghost use Rattle.std.specs.Prelude.{◌≡◌, IfOk, Result, Ok, Err};
 ghost use Rattle.policy_file.specs.declared.token.Token.{Token};
 ghost use Rattle.policy_file.specs.Field.{Gives};
-ghost use Rattle.policy_file.specs.TokenText.{IsToken, NamesLiteral, token_text};
-ghost use Rattle.policy_file.specs.TokenReading.{magic_in, object_in, hash_in, bank_in, pcr_in, value_in, literal_in, token_in};
+ghost use Rattle.policy_file.specs.TokenText.{IsToken, token_text};
+ghost use Rattle.policy_file.specs.TokenReading.{magic_in, object_in, kind_in, bank_in, pcr_in, value_in, literal_in, said_in, token_in};
 
 use crate::error::{FileError, FileKind};
 use crate::field::{field, number_8, number_16, number_32};
-use crate::token::{Literal, Token};
+use crate::token::{Kind, Literal, Token};
 use hash_bank::{Bank, Digest};
 
 /// `PLTOK`, and version 1 in three bytes.
@@ -42,13 +42,14 @@ fn read_object(bytes: &[u8]) -> Result<u32, FileError>
     Ok(object)
 }
 
-#[tactic(auto, unfolding(crate::specs::TokenReading::hash_in))]
-fn read_hash(bytes: &[u8]) -> Result<Bank, FileError>
-    ensures { result ≡ hash_in bytes.now }
+#[tactic(auto, unfolding(crate::specs::TokenReading::kind_in))]
+fn read_kind(bytes: &[u8]) -> Result<Kind, FileError>
+    ensures { result ≡ kind_in bytes.now }
 {
     match number_8(bytes, 12)? {
-        1 => Ok(Bank::Sha256),
-        2 => Ok(Bank::Sha384),
+        0 => Ok(Kind::Bound),
+        1 => Ok(Kind::Literal(Bank::Sha256)),
+        2 => Ok(Kind::Literal(Bank::Sha384)),
         _ => Err(FileError::Malformed {
             place: 12,
             kind: FileKind::Value,
@@ -111,15 +112,35 @@ fn read_literal(bytes: &[u8], hash: Bank) -> Result<Literal, FileError>
     })
 }
 
+#[tactic(auto, unfolding(crate::specs::TokenReading::said_in))]
+fn read_said(bytes: &[u8], object: u32, kind: Kind) -> Result<Token, FileError>
+    ensures { result ≡ said_in bytes.now object kind }
+{
+    match kind {
+        Kind::Bound => {
+            if bytes.len() != 13 {
+                return Err(FileError::Malformed {
+                    place: 13,
+                    kind: FileKind::Trailing,
+                });
+            }
+            Ok(Token::Bound { object })
+        }
+        Kind::Literal(hash) => {
+            let literal = read_literal(bytes, hash)?;
+            Ok(Token::Literal { object, literal })
+        }
+    }
+}
+
 #[tactic(auto, unfolding(crate::specs::TokenReading::token_in))]
 fn read_all(bytes: &[u8]) -> Result<Token, FileError>
     ensures { result ≡ token_in bytes.now }
 {
     check_magic(bytes)?;
     let object = read_object(bytes)?;
-    let hash = read_hash(bytes)?;
-    let literal = read_literal(bytes, hash)?;
-    Ok(Token::Literal { object, literal })
+    let kind = read_kind(bytes)?;
+    read_said(bytes, object, kind)
 }
 
 /// The token that the bytes spell, all of the bytes. It takes no memory.
@@ -130,19 +151,23 @@ fn read_all(bytes: &[u8]) -> Result<Token, FileError>
 /// |---|---|---|---|
 /// | 0 | 8 | `PLTOK`, 0, 0, 1 | `Magic` |
 /// | 8 | 4 | the object's handle, 0x81000000 to 0x817fffff | `Value` |
-/// | 12 | 1 | the kind, 1 a literal under SHA-256, 2 one under SHA-384 | `Value` |
+/// | 12 | 1 | the kind, 0 bound, 1 a literal under SHA-256, 2 one under SHA-384 | `Value` |
+///
+/// With that a bound token ends. A literal one goes on:
+///
+/// | Place | Size | Field | Else |
+/// |---|---|---|---|
 /// | 13 | 2 | the bank's algorithm (TPM 2.0 Library Part 2, TPM_ALG_ID) | `Value` |
 /// | 15 | 1 | the PCR, 0 to 23 | `Value` |
 /// | 16 | the bank's | the value | |
 ///
-/// A field that the end cuts is `Cut` where it begins, and bytes behind the value are `Trailing`
-/// where it ends. The kind 0, a bound token, is not read yet: it is `Value` at 12. Which hash goes
-/// with which bank is not asked here.
+/// A field that the end cuts is `Cut` where it begins, and bytes behind the last field are `Trailing`
+/// where it ends. Which hash goes with which bank is not asked here.
 pub fn read_token(bytes: &[u8]) -> Result<Token, FileError>
     // What is read is spelled so.
-    ensures spelled { IfOk result (λ t. IsToken t × NamesLiteral t × (bytes.now ≡ token_text t)) }
+    ensures spelled { IfOk result (λ t. IsToken t × (bytes.now ≡ token_text t)) }
     // What is spelled so is read.
-    ensures read { (t : Token) → IsToken t → NamesLiteral t → bytes.now ≡ token_text t → result ≡ Ok t }
+    ensures read { (t : Token) → IsToken t → bytes.now ≡ token_text t → result ≡ Ok t }
     // The fault is the first one.
     ensures exact { result ≡ token_in bytes.now }
 {

@@ -1,7 +1,8 @@
 //! Writing a token file.
 
-ghost use Rattle.std.specs.Prelude.{◌≡◌, ◌++◌, ◌≤◌, IfOk, OnOk, Ok};
-ghost use Rattle.policy_file.specs.TokenText.{IsToken, NamesLiteral, IsLiteral, literal_kind, literal_text, token_text};
+ghost use Rattle.std.specs.Prelude.{◌≡◌, ◌++◌, ◌∷◌, [], IfOk, OnOk, Ok};
+ghost use Rattle.std.specs.Int.{w32, to_be_bytes};
+ghost use Rattle.policy_file.specs.TokenText.{IsToken, IsLiteral, literal_kind, literal_text, token_magic, token_text};
 ghost use Rattle.policy_file.specs.TokenReading.{token_in};
 
 use crate::token::{Literal, Token};
@@ -23,6 +24,15 @@ fn kind_of(literal: &Literal) -> u8
     }
 }
 
+fn put_front(out: &mut Vec<u8>, object: u32, kind: u8) -> Result<(), Memory>
+    ensures { OnOk result (out.new.items ≡ out.old.items ++ (token_magic ++ (to_be_bytes w32 object ++ kind ∷ []))) }
+{
+    out.extend_from_slice(&TOKEN_MAGIC)?;
+    put_u32(out, object)?;
+    out.push(kind)?;
+    Ok(())
+}
+
 fn put_literal(out: &mut Vec<u8>, literal: &Literal) -> Result<(), Memory>
     ensures { OnOk result (out.new.items ≡ out.old.items ++ literal_text literal.now) }
 {
@@ -33,17 +43,18 @@ fn put_literal(out: &mut Vec<u8>, literal: &Literal) -> Result<(), Memory>
 }
 
 fn put_token(alloc: Global, token: &Token) -> Result<Vec<u8>, Memory>
-    requires valid { IsToken token.now }
-    requires literal { NamesLiteral token.now }
+    requires { IsToken token.now }
     ensures { IfOk result (λ bytes. bytes.items ≡ token_text token.now) }
 {
     match token {
-        Token::Bound { .. } => unreachable!(),
+        Token::Bound { object } => {
+            let mut out = Vec::with_capacity(alloc, 13)?;
+            put_front(&mut out, *object, 0)?;
+            Ok(out)
+        }
         Token::Literal { object, literal } => {
             let mut out = Vec::with_capacity(alloc, 16 + literal.bank.size())?;
-            out.extend_from_slice(&TOKEN_MAGIC)?;
-            put_u32(&mut out, *object)?;
-            out.push(kind_of(literal))?;
+            put_front(&mut out, *object, kind_of(literal))?;
             put_literal(&mut out, literal)?;
             Ok(out)
         }
@@ -52,12 +63,10 @@ fn put_token(alloc: Global, token: &Token) -> Result<Vec<u8>, Memory>
 
 /// The one text of a token, as [`crate::read_token`] reads it.
 ///
-/// The object's handle is from 0x81000000 to 0x817fffff; the literal's hash is SHA-256 or SHA-384,
-/// its PCR at most 23, its value of the bank's size. For now the token has to be a literal one: a
-/// bound token has no text yet.
+/// The object's handle is from 0x81000000 to 0x817fffff; a literal's hash is SHA-256 or SHA-384,
+/// its PCR at most 23, its value of the bank's size.
 pub fn write_token(alloc: Global, token: &Token) -> Result<Vec<u8>, Memory>
-    requires valid { IsToken token.now }
-    requires literal { NamesLiteral token.now }
+    requires { IsToken token.now }
     ensures spelled { IfOk result (λ bytes. bytes.items ≡ token_text token.now) }
     ensures read_back { IfOk result (λ bytes. token_in bytes.items ≡ Ok token.now) }
 {
