@@ -1,0 +1,4 @@
+pub mod Held
+pub mod Rows
+pub mod Looks
+pub mod Depth
