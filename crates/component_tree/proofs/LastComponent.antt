@@ -1,5 +1,5 @@
 -- The last component as it stands in memory, and as plain data.
-use Rattle.std.proofs.Common.{◌≡◌, ℕ, suc, ◌+◌, ◌-◌, ◌≤◌, List, [], ◌∷◌, ◌++◌, map, length, take, drop, Option, Some, None, refl, sym, ap, ◌∙◌, arith}
+use Rattle.std.proofs.Common.{◌≡◌, ℕ, suc, ◌-◌, List, [], ◌∷◌, ◌++◌, map, length, take, Some, sym, ap, ◌∙◌, arith}
 use Rattle.std.specs.Prelude.{slice_get, option_map, remove, IfSome}
 use Rattle.std.proofs.lemmas.List.{length-map, map_push, take-map, append-nil, drop_all}
 use Rattle.std.proofs.lemmas.Option.{slice_get-map}

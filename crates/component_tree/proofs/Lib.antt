@@ -6,3 +6,4 @@ pub mod LastComponent
 pub mod Keeping
 pub mod Trees
 pub mod Selecting
+pub mod There

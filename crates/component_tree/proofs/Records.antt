@@ -1,14 +1,13 @@
 -- A component file that is read has at most 256 records, and a refusal is that of the definition.
-use Rattle.std.proofs.Common.{◌≡◌, ℕ, suc, ◌+◌, ◌-◌, ◌≤◌, Bool, true, false, cond, eqb, List, [], ◌∷◌, map, length, Option, Some, None, Result, Ok, Err, refl, sym, ap, subst, ◌∙◌, ◌⊎◌, inl, inr, arith}
+use Rattle.std.proofs.Common.{◌≡◌, ℕ, ◌+◌, ◌≤◌, Bool, true, false, cond, eqb, List, [], ◌∷◌, map, length, Result, Ok, Err, refl, subst, inl, inr, arith}
 use Rattle.std.proofs.lemmas.Bool.{true≢false, eqb-false}
 use Rattle.std.proofs.lemmas.List.{length-map}
 use Rattle.std.specs.Option.{ok_or}
-use Rattle.serde_json.specs.Data.{Data, Items, no_items, item}
+use Rattle.serde_json.specs.Data.{Items, no_items, item}
 use Rattle.cel_record.specs.declared.error.RecordsError.{RecordsError}
 use Rattle.cel_record.specs.declared.error.RecordsError.TheVariants as records
-use Rattle.cel_record.specs.declared.kind.RecordKind.{RecordKind}
 use Rattle.cel_record.specs.declared.record.CelRecord.{CelRecord}
-use Rattle.cel_record.specs.Answers.{Answers as GivesRecords, Refuses as RefusesRecords}
+use Rattle.cel_record.specs.Answers.{Refuses as RefusesRecords}
 use Rattle.cel_record.specs.ComponentText.{component_of, values_of, records_from, numbered}
 use Rattle.cel_record.specs.JsonValue.{json_of}
 use Rattle.cel_record.specs.RecordText.{record_of}

@@ -1,8 +1,8 @@
 -- The walk over the folders takes exactly the files that the map of paths says.
-use Rattle.std.proofs.Common.{◌≡◌, ℕ, suc, ◌+◌, ◌-◌, ◌≤◌, Bool, true, false, cond, not, ◌&&◌, ◌||◌, ltb, List, [], ◌∷◌, ◌++◌, map, length, take, drop, Option, Some, None, Result, Ok, Err, refl, sym, ap, subst, ◌∙◌, arith}
-use Rattle.std.specs.Prelude.{nat_eq, is_some, IfOk}
+use Rattle.std.proofs.Common.{◌≡◌, ℕ, ◌-◌, Bool, true, false, cond, not, ◌&&◌, ◌||◌, ltb, List, [], ◌∷◌, ◌++◌, map, length, take, drop, Option, Some, None, Result, Ok, Err, refl, sym, ap, ◌∙◌, arith}
+use Rattle.std.specs.Prelude.{is_some, IfOk}
 use Rattle.std.specs.Bool.{Decides}
-use Rattle.std.specs.Option.{option_or, option_cmp}
+use Rattle.std.specs.Option.{option_or}
 use Rattle.std.specs.List.{list_any}
 use Rattle.std.specs.Str.{bytes_eq}
 use Rattle.std.specs.declared.cmp.Ordering.{Ordering}
@@ -26,9 +26,9 @@ use Rattle.component_tree.specs.declared.place.Place.{Place}
 use Rattle.component_tree.specs.Listing.{names_below, as_entry, listing}
 use Rattle.component_tree.specs.Names.{file_ending, folder_ending, stem_of, is_good}
 use Rattle.component_tree.specs.Places.{place_cmp, place_total}
-use Rattle.component_tree.specs.PlainTree.{PlainComponent, plain}
+use Rattle.component_tree.specs.PlainTree.{plain}
 use Rattle.component_tree.specs.Reading.{loaded}
-use Rattle.component_tree.specs.Selection.{file_in, folder_in, is_there, path_of, chosen}
+use Rattle.component_tree.specs.Selection.{is_there, path_of, chosen}
 use Rattle.component_tree.specs.Step.{◌>>=◌, Answers}
 use Rattle.component_tree.specs.TreeOf.{IsTreeOf}
 use Rattle.component_tree.specs.declared.tree.Tree.{Tree}
@@ -38,10 +38,10 @@ use Rattle.component_tree.proofs.Listings.{names_contain}
 abbrev text_cmp : List ℕ → List ℕ → Ordering
 text_cmp = slice_cmp nat_cmp
 
-abbrev Path : Type 0
+abbrev pub Path : Type 0
 Path = Option (List ℕ)
 
-abbrev found : Place → Taken → Path
+abbrev pub found : Place → Taken → Path
 found q t = lookup (is_at (place_cmp q)) t
 
 -- ---- results and options
@@ -405,7 +405,7 @@ first_chosen : (b : Bool) (x : List ℕ) (o : Path) → option_or (cond b (Some 
 first_chosen true x o = refl
 first_chosen false x o = refl
 
-folders_give : (files : FileMap) (q : Place) (folders : List (List ℕ)) (t more : Taken) → with_folders files t folders ≡ Ok more → found q more ≡ option_or (found q t) (chosen files folders q)
+pub folders_give : (files : FileMap) (q : Place) (folders : List (List ℕ)) (t more : Taken) → with_folders files t folders ≡ Ok more → found q more ≡ option_or (found q t) (chosen files folders q)
 folders_give files q [] t more e = unchanged q t more (ok_is t more e)
 folders_give files q (folder ∷ folders) t more e =
     let a = bind_ok (with_folder files t folder) (λ m. with_folders files m folders) more e in

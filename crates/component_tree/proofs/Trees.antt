@@ -1,5 +1,5 @@
 -- The places that are left, in order, and what a tree keeps.
-use Rattle.std.proofs.Common.{◌≡◌, ℕ, ◌+◌, ◌≤◌, Bool, true, false, List, [], ◌∷◌, map, length, Option, Some, None, Result, Ok, Err, refl, sym, ap, subst, ◌∙◌, arith}
+use Rattle.std.proofs.Common.{◌≡◌, ℕ, ◌≤◌, false, List, [], ◌∷◌, map, length, Option, Some, None, Result, Ok, refl, sym, ap, ◌∙◌, arith}
 use Rattle.std.specs.Prelude.{sum_by, IsTrue}
 use Rattle.std.specs.Option.{MatchOption, option_cmp}
 use Rattle.std.specs.List.{AllByRecursion}
@@ -13,7 +13,7 @@ use Rattle.std.specs.Cmp.Lexicographic.{slice_cmp, nat_list_cmp_total}
 use Rattle.std.proofs.lemmas.List.{length-map}
 use Rattle.std.proofs.lemmas.List.Sums.{sum_by-cons}
 use Rattle.pl_base.specs.FileMap.{FileMap}
-use Rattle.cel_record.specs.Spelled.{spelled}
+use Rattle.cel_record.specs.Spelled.{Spelled, spelled}
 use Rattle.component_tree.specs.declared.error.TreeError.{TreeError}
 use Rattle.component_tree.specs.declared.place.Place.{Place}
 use Rattle.component_tree.specs.declared.tree.Variant.{Variant}
@@ -22,7 +22,7 @@ use Rattle.component_tree.specs.Ascending.{ascend}
 use Rattle.component_tree.specs.Growth.{IsWithin, IsUpTo}
 use Rattle.component_tree.specs.Places.{place_cmp}
 use Rattle.component_tree.specs.PlainTree.{PlainComponent, plain, plain_component, plain_variant, records_in_all}
-use Rattle.component_tree.specs.Reading.{last_of, with_file, loaded}
+use Rattle.component_tree.specs.Reading.{last_of, records_at, with_found, with_file, loaded}
 use Rattle.component_tree.specs.Step.{◌>>=◌}
 use Rattle.component_tree.specs.Taken.{Taken}
 
@@ -61,6 +61,12 @@ pub loaded_rest : (files : FileMap) (cs more : List PlainComponent) (place : Pla
     → loaded files cs ((place, path) ∷ rest) ≡ all → with_file files cs place path ≡ Ok more → loaded files more rest ≡ all
 loaded_rest files cs more place path rest all so_far file =
     sym (ap (λ (r : Result (List PlainComponent) TreeError). r >>= λ m. loaded files m rest) file) ∙ so_far
+
+-- a file whose records were found and added
+pub with_file_found : (files : FileMap) (cs more : List PlainComponent) (place : Place) (path : List ℕ) (found : Option (List Spelled))
+    → records_at files path ≡ Ok found → with_found cs place found ≡ Ok more → with_file files cs place path ≡ Ok more
+with_file_found files cs more place path found read added =
+    ap (λ (r : Result (Option (List Spelled)) TreeError). r >>= λ f. with_found cs place f) read ∙ added
 
 -- ---- what a tree keeps
 

@@ -1,6 +1,7 @@
 pub mod Names
 pub mod Places
 pub mod Limits
+pub mod Contents
 pub mod Ascending
 pub mod Step
 pub mod Listing

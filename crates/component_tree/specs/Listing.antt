@@ -1,5 +1,5 @@
 -- What stands directly below a path, by the map of files.
-use Rattle.std.specs.Prelude.{ℕ, ◌+◌, Bool, ◌==◌, List, ◌∷◌, [], ◌++◌, length, drop, map, nat_eq, option_and_then, Option, None, Some, if◌then◌else◌}
+use Rattle.std.specs.Prelude.{ℕ, ◌==◌, List, ◌∷◌, [], ◌++◌, length, map, option_and_then, Option, None, Some, if◌then◌else◌}
 use Rattle.std.specs.List.{filter_map}
 use Rattle.std.specs.FinMap.{keys, from_entries}
 use Rattle.std.specs.Ordering.{nat_cmp}

@@ -1,5 +1,7 @@
 -- The component files that a list of folders gives, and where each is taken from; folder after folder, entry after entry.
-use Rattle.std.specs.Prelude.{ℕ, Bool, true, List, [], ◌∷◌, length, is_some, nat_lt, Option, Some, None, Result, Ok, Err, if◌then◌else◌}
+use Rattle.std.specs.Prelude.{◌≡◌, ℕ, true, List, [], ◌∷◌, length, is_some, nat_lt, Option, Some, None, Result, Ok, Err, if◌then◌else◌}
+use Rattle.std.specs.FinMap.{contains_key}
+use Rattle.std.specs.List.{AllByRecursion}
 use Rattle.std.specs.Map.{lookup}
 use Rattle.std.specs.BTreeMap.{is_at, insert_entry}
 use Rattle.pl_base.specs.declared.files.Entry.{Entry}
@@ -81,3 +83,7 @@ with_folders files taken (folder ∷ folders) = with_folder files taken folder >
 -- the files that the folders give together
 abbrev pub taken_in : FileMap → List (List ℕ) → Result Taken TreeError
 taken_in files folders = with_folders files [] folders
+
+-- each file is there, at the path that it is taken from
+abbrev pub AreThere : FileMap → Taken → Type 0
+AreThere files taken = AllByRecursion (λ file. contains_key files file.1 ≡ true) taken

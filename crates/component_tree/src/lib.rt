@@ -17,6 +17,3 @@ mod walk;
 pub use error::{TreeError, TreeLimit};
 pub use loading::load_tree;
 pub use tree::{Component, Tree, Variant};
-
-#[cfg(test)]
-mod tests;

@@ -9,12 +9,21 @@ ghost use Rattle.component_tree.specs.Taken.{noted, named, with_variant_entry, w
 use crate::error::TreeError;
 use crate::name::{is_good_name, stem};
 use crate::place::Place;
-use pl_base::{Entry, Memory, Name};
+use pl_base::{Entry, List, Memory, Name};
 use std::alloc::Global;
 use std::collections::BTreeMap;
 
 /// The ending of a component file's name.
 pub(crate) const FILE_ENDING: &str = ".pcrlock";
+
+/// Component files by their places.
+#[derive(Drop)]
+pub(crate) struct Overlay {
+    /// The path of each in the first folder that has it.
+    pub first: BTreeMap<Place, Name>,
+    /// The paths in the folders behind that one, in their order, where these have it too.
+    pub behind: BTreeMap<Place, List<Name>>,
+}
 
 /// The path of a name directly below a folder.
 pub(crate) fn path_below(alloc: Global, folder: &str, name: &str) -> Result<Name, Memory>
@@ -27,43 +36,60 @@ pub(crate) fn path_below(alloc: Global, folder: &str, name: &str) -> Result<Name
     Name::from_text(alloc, path.as_str())
 }
 
-/// Notes a file with a path, unless an earlier folder has one in its place.
-fn note(taken: &mut BTreeMap<Place, Name>, place: Place, path: Name) -> Result<(), Memory>
-    ensures { OnOk result (taken.new.entries ≡ noted taken.old.entries place path) }
-{
-    if taken.contains_key(&place) {
-        return Ok(());
+/// Notes one more path of a place.
+fn note_behind(
+    alloc: Global,
+    behind: &mut BTreeMap<Place, List<Name>>,
+    place: Place,
+    path: Name,
+) -> Result<(), Memory> {
+    if let Some(paths) = behind.get_mut(&place) {
+        return paths.push(path);
     }
-    taken.insert(place, path)?;
+    let mut paths = List::new(alloc);
+    paths.push(path)?;
+    behind.insert(place, paths)?;
+    Ok(())
+}
+
+/// Notes a file with a path: as that of its place, or behind it where an earlier folder has one.
+fn note(alloc: Global, taken: &mut Overlay, place: Place, path: Name) -> Result<(), Memory>
+    ensures { OnOk result (taken.new.first.entries ≡ noted taken.old.first.entries place path) }
+{
+    if taken.first.contains_key(&place) {
+        return note_behind(alloc, &mut taken.behind, place, path);
+    }
+    taken.first.insert(place, path)?;
     Ok(())
 }
 
 /// Notes a file in a place, where the name that it gives is good.
 fn note_named(
-    taken: &mut BTreeMap<Place, Name>,
+    alloc: Global,
+    taken: &mut Overlay,
     name: &str,
     place: Place,
     path: Name,
 ) -> Result<(), TreeError>
-    ensures gives { Answers (λ _. taken.new.entries) result (named name.now taken.old.entries place path) }
+    ensures gives { Answers (λ _. taken.new.first.entries) result (named name.now taken.old.first.entries place path) }
     ensures fine { result ≢ Err TreeError.Failed }
 {
     if !is_good_name(name) {
         return Err(TreeError::BadName(path));
     }
-    note(taken, place, path)?;
+    note(alloc, taken, place, path)?;
     Ok(())
 }
 
 /// Notes the file of a component's variant, if the entry is one.
 fn note_variant(
     alloc: Global,
-    taken: &mut BTreeMap<Place, Name>,
+    taken: &mut Overlay,
     id: &str,
     folder: &str,
     entry: &Entry,
 ) -> Result<(), TreeError>
-    ensures gives { Answers (λ _. taken.new.entries) result (with_variant_entry taken.old.entries id.now folder.now entry.now) }
+    ensures gives { Answers (λ _. taken.new.first.entries) result (with_variant_entry taken.old.first.entries id.now folder.now entry.now) }
     ensures fine { result ≢ Err TreeError.Failed }
 {
     if entry.folder {
@@ -78,18 +104,18 @@ fn note_variant(
         file: Some(Name::from_text(alloc, name)?),
     };
     let path = path_below(alloc, folder, name)?;
-    note_named(taken, variant, place, path)
+    note_named(alloc, taken, variant, place, path)
 }
 
 /// Notes the files of a component's variants in a folder of them.
 pub(crate) fn note_variants(
     alloc: Global,
-    taken: &mut BTreeMap<Place, Name>,
+    taken: &mut Overlay,
     id: &str,
     folder: &str,
     entries: &[Entry],
 ) -> Result<(), TreeError>
-    ensures gives { Answers (λ _. taken.new.entries) result (with_variant_entries taken.old.entries id.now folder.now entries.now) }
+    ensures gives { Answers (λ _. taken.new.first.entries) result (with_variant_entries taken.old.first.entries id.now folder.now entries.now) }
     ensures fine { result ≢ Err TreeError.Failed }
 {
     for entry in entries {
@@ -101,11 +127,11 @@ pub(crate) fn note_variants(
 /// Notes a component's own file, if the name has the ending.
 pub(crate) fn note_own(
     alloc: Global,
-    taken: &mut BTreeMap<Place, Name>,
+    taken: &mut Overlay,
     name: &str,
     path: Name,
 ) -> Result<(), TreeError>
-    ensures gives { Answers (λ _. taken.new.entries) result (with_own (stem_of file_ending name.now) taken.old.entries path) }
+    ensures gives { Answers (λ _. taken.new.first.entries) result (with_own (stem_of file_ending name.now) taken.old.first.entries path) }
     ensures fine { result ≢ Err TreeError.Failed }
 {
     let Some(id) = stem(name, FILE_ENDING) else {
@@ -115,5 +141,5 @@ pub(crate) fn note_own(
         id: Name::from_text(alloc, id)?,
         file: None,
     };
-    note_named(taken, id, place, path)
+    note_named(alloc, taken, id, place, path)
 }

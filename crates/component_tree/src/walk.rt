@@ -11,8 +11,7 @@ ghost use Rattle.component_tree.specs.Taken.{entries_of, with_variants, with_ent
 
 use crate::error::{TreeError, TreeLimit};
 use crate::name::{is_good_name, stem};
-use crate::place::Place;
-use crate::taken::{note_own, note_variants, path_below};
+use crate::taken::{Overlay, note_own, note_variants, path_below};
 use pl_base::{Entry, Files, List, ListError, Name};
 use std::alloc::Global;
 use std::collections::BTreeMap;
@@ -45,12 +44,12 @@ fn list_folder<F: Files>(
 fn walk_variants<F: Files>(
     alloc: Global,
     files: &mut F,
-    taken: &mut BTreeMap<Place, Name>,
+    taken: &mut Overlay,
     name: &str,
     path: Name,
 ) -> Result<(), TreeError>
     ensures cause { HasCause (F.faults files.old) (F.faults files.new) (result ≡ Err TreeError.Failed) }
-    ensures told { (map : FileMap) → F.held files.old ≡ Some map → Answers (λ _. taken.new.entries) result (with_variants map (stem_of folder_ending name.now) taken.old.entries path) }
+    ensures told { (map : FileMap) → F.held files.old ≡ Some map → Answers (λ _. taken.new.first.entries) result (with_variants map (stem_of folder_ending name.now) taken.old.first.entries path) }
     ensures same { F.held files.new ≡ F.held files.old }
 {
     let Some(id) = stem(name, FOLDER_ENDING) else {
@@ -67,12 +66,12 @@ fn walk_variants<F: Files>(
 fn walk_entry<F: Files>(
     alloc: Global,
     files: &mut F,
-    taken: &mut BTreeMap<Place, Name>,
+    taken: &mut Overlay,
     folder: &str,
     entry: &Entry,
 ) -> Result<(), TreeError>
     ensures cause { HasCause (F.faults files.old) (F.faults files.new) (result ≡ Err TreeError.Failed) }
-    ensures told { (map : FileMap) → F.held files.old ≡ Some map → Answers (λ _. taken.new.entries) result (with_entry map taken.old.entries folder.now entry.now) }
+    ensures told { (map : FileMap) → F.held files.old ≡ Some map → Answers (λ _. taken.new.first.entries) result (with_entry map taken.old.first.entries folder.now entry.now) }
     ensures same { F.held files.new ≡ F.held files.old }
 {
     let name = entry.name.text();
@@ -88,11 +87,11 @@ fn walk_entry<F: Files>(
 fn walk_folder<F: Files>(
     alloc: Global,
     files: &mut F,
-    taken: &mut BTreeMap<Place, Name>,
+    taken: &mut Overlay,
     folder: &str,
 ) -> Result<(), TreeError>
     ensures cause { HasCause (F.faults files.old) (F.faults files.new) (result ≡ Err TreeError.Failed) }
-    ensures told { (map : FileMap) → F.held files.old ≡ Some map → Answers (λ _. taken.new.entries) result (with_folder map taken.old.entries folder.now) }
+    ensures told { (map : FileMap) → F.held files.old ≡ Some map → Answers (λ _. taken.new.first.entries) result (with_folder map taken.old.first.entries folder.now) }
     ensures same { F.held files.new ≡ F.held files.old }
 {
     let entries = list_folder(alloc, files, folder)?;
@@ -102,22 +101,25 @@ fn walk_folder<F: Files>(
     Ok(())
 }
 
-/// The component files that the folders give together, each with the path that it is taken from.
+/// The component files that the folders give together, each with the paths that it may be taken from.
 pub(crate) fn walk<F: Files>(
     alloc: Global,
     files: &mut F,
     folders: &[Name],
-) -> Result<BTreeMap<Place, Name>, TreeError>
+) -> Result<Overlay, TreeError>
     ensures cause { HasCause (F.faults files.old) (F.faults files.new) (result ≡ Err TreeError.Failed) }
-    ensures told { (map : FileMap) → F.held files.old ≡ Some map → Answers (λ taken. taken.entries) result (taken_in map folders.now) }
-    ensures in_order { IfOk result (λ taken. IsOrdered place_cmp taken) }
+    ensures told { (map : FileMap) → F.held files.old ≡ Some map → Answers (λ taken. taken.first.entries) result (taken_in map folders.now) }
+    ensures in_order { IfOk result (λ taken. IsOrdered place_cmp taken.first) }
     ensures same { F.held files.new ≡ F.held files.old }
 {
-    let mut taken = BTreeMap::new(alloc);
+    let mut taken = Overlay {
+        first: BTreeMap::new(alloc),
+        behind: BTreeMap::new(alloc),
+    };
     for folder in folders {
         walk_folder(alloc, files, &mut taken, folder.text())?;
     }
     // That the places are in order is known of a map whose entries were counted.
-    let _count = taken.len();
+    let _count = taken.first.len();
     Ok(taken)
 }

@@ -1,16 +1,21 @@
-use Rattle.std.proofs.Common.{◌≡◌, sym, ap, ◌∙◌, ◌∷◌, subst, arith, Result}
-use Rattle.std.specs.List.{AllByRecursion}
+use Rattle.std.proofs.Common.{◌≡◌, sym, ap, ◌∙◌, ◌∷◌, subst, arith, List, map, Option}
+use Rattle.std.specs.Prelude.{option_map}
+use Rattle.cel_record.specs.declared.record.CelRecord.{CelRecord}
 use Rattle.std.specs.List.Sorted.{IsStrictlySortedBy}
 use Rattle.std.specs.Map.{keys_of}
 use Rattle.std.specs.Map.Iter.{deref_pair}
 use Rattle.std.proofs.lemmas.Map.Iter.{rest_more}
-use Rattle.component_tree.specs.Growth.{IsUpTo}
+use Rattle.cel_record.specs.Spelled.{Spelled, spelled}
 use Rattle.component_tree.specs.Places.{place_cmp}
 use Rattle.component_tree.specs.PlainTree.{plain}
 use Rattle.component_tree.specs.Reading.{loaded}
-use Rattle.component_tree.specs.Taken.{Taken}
-use Rattle.component_tree.proofs.Trees.{up_to_rest, sorted_rest, loaded_rest, tree_few, tree_ascends, tree_total}
+use Rattle.component_tree.specs.Taken.{Taken, AreThere}
+use Rattle.component_tree.proofs.Trees.{up_to_rest, sorted_rest, loaded_rest, with_file_found, tree_few, tree_ascends, tree_total}
 use Rattle.component_tree.proofs.loading.load.Goals as goal
+
+-- the records of a file, as plain data
+abbrev plainly : Option (List CelRecord) → Option (List Spelled)
+plainly found = option_map (λ rs. map spelled rs) found
 
 pub loop-place-preserved : goal.loop-place-preserved
 loop-place-preserved g c =
@@ -20,15 +25,19 @@ loop-place-preserved g c =
     record {
       can_next = tt;
       is_finite = tt;
-      later = omega (arith, c.loop-place.invariant.later, c.load_file.ensures.cause.later);
-      same = c.load_file.ensures.same ∙ c.loop-place.invariant.same;
-      told = λ map held. loaded_rest map (plain c.loop-place.components) (plain c.load_file.new.components) c.in-Some.place.now c.in-Some.path.now c.next.new.self _
-          (sym (ap (λ (es : Taken). loaded map (plain c.loop-place.components) es) left) ∙ c.loop-place.invariant.told map held)
-          (c.in_ok-total.ensures.told map (c.loop-place.invariant.same ∙ held));
-      within = c.in_ok-total.ensures.within;
-      counted = c.in_ok-total.ensures.counted;
+      later = omega (arith, c.loop-place.invariant.later, c.read_place.ensures.cause.later);
+      same = c.read_place.ensures.same ∙ c.loop-place.invariant.same;
+      told = λ files held.
+          let there = subst (AreThere files) left (c.loop-place.invariant.there files held) in
+          loaded_rest files (plain c.loop-place.components) (plain c.add_found.new.components) c.in-Some.place.now c.in-Some.path.now c.next.new.self _
+          (sym (ap (λ (es : Taken). loaded files (plain c.loop-place.components) es) left) ∙ c.loop-place.invariant.told files held)
+          (with_file_found files (plain c.loop-place.components) (plain c.add_found.new.components) c.in-Some.place.now c.in-Some.path.now (plainly c.in-Ok.found)
+          (c.in-Ok.ensures.told files (c.loop-place.invariant.same ∙ held) there.0) c.in-Ok-add_found.ensures.gives);
+      there = λ files held. (subst (AreThere files) left (c.loop-place.invariant.there files held)).1;
+      within = c.in-Ok-add_found.ensures.within;
+      counted = c.in-Ok-add_found.ensures.counted;
       sorted = sorted.1;
-      up_to = up_to_rest c.in-Some.place.now (plain c.load_file.new.components) c.next.new.self c.in_ok-total.ensures.in_order sorted.0;
+      up_to = up_to_rest c.in-Some.place.now (plain c.add_found.new.components) c.next.new.self c.in-Ok-add_found.ensures.in_order sorted.0;
     }
 
 pub invariant_of-result : goal.invariant_of-result

@@ -1,4 +1,4 @@
-use Rattle.std.proofs.Common.{◌≡◌, sym, ap, ◌∙◌, length, [], refl, rules, arith}
+use Rattle.std.proofs.Common.{◌≡◌, length, [], refl}
 use Rattle.std.proofs.lemmas.Bool.{le-ltb, lt-ltb}
 use Rattle.component_tree.specs.Limits.{entry_limit}
 use Rattle.component_tree.specs.Listing.{listing}

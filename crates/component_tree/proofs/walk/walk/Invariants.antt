@@ -8,5 +8,5 @@ abbrev pub invariant-loop-folder : goal.invariant-loop-folder
 invariant-loop-folder g l = record {
   later : g.F.Files.faults l.fn.files ≤ g.F.Files.faults l.files;
   same : g.F.Files.held l.files ≡ g.F.Files.held l.fn.files;
-  told : (map : FileMap) → g.F.Files.held l.fn.files ≡ Some map → with_folders map l.taken.entries (drop l.folder-index l.folders) ≡ taken_in map l.folders;
+  told : (map : FileMap) → g.F.Files.held l.fn.files ≡ Some map → with_folders map l.taken.first.entries (drop l.folder-index l.folders) ≡ taken_in map l.folders;
 }

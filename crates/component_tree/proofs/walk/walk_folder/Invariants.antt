@@ -8,5 +8,5 @@ abbrev pub invariant-loop-entry : goal.invariant-loop-entry
 invariant-loop-entry g l = record {
   later : g.F.Files.faults l.fn.files ≤ g.F.Files.faults l.files;
   same : g.F.Files.held l.files ≡ g.F.Files.held l.fn.files;
-  told : (map : FileMap) → g.F.Files.held l.fn.files ≡ Some map → with_entries map l.taken.entries l.folder (drop l.entry-index l.entry-items) ≡ with_folder map l.fn.taken.entries l.folder;
+  told : (map : FileMap) → g.F.Files.held l.fn.files ≡ Some map → with_entries map l.taken.first.entries l.folder (drop l.entry-index l.entry-items) ≡ with_folder map l.fn.taken.first.entries l.folder;
 }
