@@ -8,3 +8,5 @@ pub mod OnePcr
 pub mod MaskLists
 pub mod WindowLemmas
 pub mod Sorts
+pub mod Sound
+pub mod Valid

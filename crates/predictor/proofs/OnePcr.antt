@@ -23,14 +23,14 @@ use Rattle.predictor.proofs.Growth.{map-map}
 abbrev State : Type 0
 State = List (List ℕ)
 
-abbrev alone : List ℕ → List (List ℕ)
+abbrev pub alone : List ℕ → List (List ℕ)
 alone v = v ∷ []
 
 and_true : (b : Bool) → (b && true) ≡ b
 and_true true = refl
 and_true false = refl
 
-alone_same : (a b : List ℕ) → values_eq (alone a) (alone b) ≡ bytes_eq a b
+pub alone_same : (a b : List ℕ) → values_eq (alone a) (alone b) ≡ bytes_eq a b
 alone_same a b = and_true (bytes_eq a b)
 
 pub states_alone : (bank : Bank) (locality pcr : ℕ) (components : List PlainComponent) → states_after bank locality (pcr ∷ []) components ≡ map alone (values_after bank locality pcr components)

@@ -27,7 +27,7 @@ State = List (List ℕ)
 
 -- ---- ranges
 
-range_split : (a m k : ℕ) → range_with_len a (m + k) ≡ range_with_len a m ++ range_with_len (a + m) k
+pub range_split : (a m k : ℕ) → range_with_len a (m + k) ≡ range_with_len a m ++ range_with_len (a + m) k
 range_split a zero k = let z : 0 + k ≡ k = omega arith in let b : a ≡ a + 0 = omega arith in ap (range_with_len a) z ∙ ap (λ n. range_with_len n k) b
 range_split a (suc m) k =
     let s : suc m + k ≡ suc (m + k) = omega arith in

@@ -7,7 +7,7 @@ ghost use Rattle.policy_digest.specs.Levels.{first_of};
 ghost use Rattle.policy_digest.specs.Mask.{pcrs_of};
 ghost use Rattle.predictor.specs.Cuts.{inside_of};
 ghost use Rattle.predictor.specs.States.{states_after};
-ghost use Rattle.predictor.specs.Foreseen.{Answers, foreseen, foreseen_joint, foreseen_by, lacking_error, lacking_in_any};
+ghost use Rattle.predictor.specs.Foreseen.{Answers, value_limit, foreseen, foreseen_joint, foreseen_by, lacking_error, lacking_in_any};
 ghost use Rattle.predictor.specs.Spread.{stopped_at};
 
 use crate::error::ForeseeError;
@@ -132,7 +132,8 @@ pub fn foresee(
     locality: u8,
 ) -> Result<List<Digest>, ForeseeError>
     requires { pcr ≤ 23 }
-    ensures { Answers result (foreseen bank locality pcr window.now (plain tree.now.components)) }
+    ensures value { Answers result (foreseen bank locality pcr window.now (plain tree.now.components)) }
+    ensures counted { IfOk result (λ list. (1 ≤ length list) × (length list ≤ value_limit)) }
 {
     let components = components_inside(tree, &window.end);
     if let Some(at) = first_lacking(components, pcr, bank) {
@@ -214,7 +215,8 @@ pub fn foresee_joint(
 ) -> Result<List<Values>, ForeseeError>
     requires some { 0 < pcrs }
     requires in_range { pcrs < 2 ^ 24 }
-    ensures { Answers result (foreseen_joint bank locality (pcrs_of pcrs) window.now (plain tree.now.components)) }
+    ensures value { Answers result (foreseen_joint bank locality (pcrs_of pcrs) window.now (plain tree.now.components)) }
+    ensures counted { IfOk result (λ list. (1 ≤ length list) × (length list ≤ value_limit)) }
 {
     let pcrs = pcrs_in(alloc, pcrs)?;
     foresee_pcrs(alloc, tree, window, pcrs.as_slice(), bank, locality)

@@ -19,6 +19,3 @@ pub use protecting::protect;
 pub use protection::{Cause, LeftOut, Protection};
 pub use reading::inside;
 pub use window::Window;
-
-#[cfg(test)]
-mod tests;

@@ -1,11 +1,12 @@
 //! Which of the asked PCRs a policy can protect.
-ghost use Rattle.std.specs.Prelude.{◌≡◌, ◌^◌, ◌≤◌, ◌<◌, [], ◌∷◌, map, length, slice_index_or, IfOk, OnOk};
+ghost use Rattle.std.specs.Prelude.{◌≡◌, ◌≢◌, true, ◌^◌, ◌≤◌, ◌<◌, [], ◌∷◌, map, length, slice_index_or, IfOk, OnOk};
 ghost use Rattle.std.specs.List.{All};
 ghost use Rattle.std.specs.Str.{bytes_eq};
 ghost use Rattle.component_tree.specs.PlainTree.{plain};
 ghost use Rattle.pcr_replay.specs.Row.{rows};
 ghost use Rattle.pcr_replay.specs.Measured.{measured_in};
 ghost use Rattle.policy_digest.specs.Mask.{pcrs_of};
+ghost use Rattle.policy_digest.specs.Table.{valid_table};
 ghost use Rattle.predictor.specs.Cuts.{inside_of};
 ghost use Rattle.predictor.specs.Foreseen.{foreseen, foreseen_joint};
 ghost use Rattle.predictor.specs.Protected.{Answers, by_measured, standing_of, standing_in, refusal_for, replayed_with, refused_for, where_replayed, mask_of, joint_rows, rows_of, kept_of, protected_each, protected_joint, protected_of};
@@ -370,7 +371,8 @@ fn protect_together(
 /// the locality is the value that it holds now, and some choice of the components inside the window's
 /// end explains them. Each other one is left out for the first of the causes in their order. The table
 /// has, with `joint`, one row for all protected PCRs with the states that `foresee_joint` gives, else a
-/// row for each with the values that `foresee` gives; it has no row where no PCR is protected.
+/// row for each with the values that `foresee` gives; it has no row where no PCR is protected, and else
+/// it is valid.
 ///
 /// # Errors
 ///
@@ -390,7 +392,8 @@ pub fn protect(
     joint: bool,
 ) -> Result<Protection, ProtectError>
     requires { length now.now ≡ 24 }
-    ensures { Answers result (protected_of joint (plain tree.now.components) window.now asked bank (rows log.now) locality now.now) }
+    ensures value { Answers result (protected_of joint (plain tree.now.components) window.now asked bank (rows log.now) locality now.now) }
+    ensures valid { IfOk result (λ p. p.table.rows ≢ [] → valid_table p.table ≡ true) }
 {
     let pcrs = pcrs_in(alloc, asked)?;
     let pcrs = pcrs.as_slice();
