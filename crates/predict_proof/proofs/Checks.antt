@@ -1,9 +1,10 @@
 -- A list, member after member.
 use Rattle.std.proofs.Common.{◌≡◌, ℕ, ◌+◌, ◌<◌, ◌≤◌, true, List, ◌∷◌, ◌++◌, length, get_or, take, drop, Option, Some, None, Ok, Err, refl, sym, ap, ◌∙◌, subst, arith}
 use Rattle.std.specs.Prelude.{is_ok, ◌↔◌}
+use Rattle.std.specs.Option.{option_or}
 use Rattle.std.specs.List.{All, Contains}
 use Rattle.std.proofs.lemmas.Bool.{false≢true}
-use Rattle.std.proofs.lemmas.List.{take-append-drop, length-take-le, take_all}
+use Rattle.std.proofs.lemmas.List.{take-append-drop, length-take-le, take_all, drop_all}
 use Rattle.std.proofs.lemmas.List.Elements.{All-more, All-contains, Contains-append_right}
 use Rattle.hash_bank.specs.declared.bank.Bank.{Bank}
 use Rattle.component_tree.specs.declared.tree.Component.{Component}
@@ -14,7 +15,7 @@ use Rattle.predictor.specs.Cuts.{inside_of}
 use Rattle.predictor.specs.Foreseen.{first_cut}
 use Rattle.predict_proof.specs.declared.proof.Proof.{Proof}
 use Rattle.predict_proof.specs.declared.error.CheckError.{CheckError}
-use Rattle.predict_proof.specs.Fault.{fault_of}
+use Rattle.predict_proof.specs.Fault.{fault_of, first_fault_from, first_fault, unless}
 use Rattle.predict_proof.specs.Proved.{HasShape, Proved, FailsBy, FailsFirst}
 use Rattle.predict_proof.proofs.Members.{first_in}
 use Rattle.predict_proof.proofs.Faults.{proved_by, fails_by, proved_not}
@@ -59,3 +60,26 @@ module _ (bank : Bank) (locality : ℕ) (window : Window) (tree : List PlainComp
 
   pub exactly_ok : All (Proved bank locality window tree) list → (is_ok {T = Unit {0}} {E = CheckError} (Ok tt) ≡ true) ↔ All (Proved bank locality window tree) list
   exactly_ok all = (λ _. all, λ _. refl)
+
+  -- ---- the first fault
+
+  abbrev pub faults_from : ℕ → Option CheckError
+  faults_from i = first_fault_from bank locality (first_cut window tree) (inside_of window.end tree) i (drop i list)
+
+  fault_at : (components : List Component) (first i : ℕ) (q : Proof) (o : Option CheckError) → plain components ≡ inside_of window.end tree → first ≡ first_cut window tree → i < length list → q ≡ get_or list i q
+      → o ≡ fault_of bank locality first (plain components) i q → faults_from i ≡ option_or o (faults_from (i + 1))
+  fault_at components first i q o is from lt at h =
+      ap (first_fault_from bank locality (first_cut window tree) (inside_of window.end tree) i) (next list i q lt at)
+      ∙ ap (λ (f : Option CheckError). option_or f (faults_from (i + 1))) (same_fault components first i q o is from h)
+
+  pub no_fault_here : (components : List Component) (first i : ℕ) (q : Proof) → plain components ≡ inside_of window.end tree → first ≡ first_cut window tree → i < length list → q ≡ get_or list i q
+      → None ≡ fault_of bank locality first (plain components) i q → faults_from i ≡ first_fault bank locality window tree list → faults_from (i + 1) ≡ first_fault bank locality window tree list
+  no_fault_here components first i q is from lt at h so_far = sym (fault_at components first i q None is from lt at h) ∙ so_far
+
+  pub fault_here : (components : List Component) (first i : ℕ) (q : Proof) (e : CheckError) → plain components ≡ inside_of window.end tree → first ≡ first_cut window tree → i < length list → q ≡ get_or list i q
+      → Some e ≡ fault_of bank locality first (plain components) i q → faults_from i ≡ first_fault bank locality window tree list → Err e ≡ unless (first_fault bank locality window tree list)
+  fault_here components first i q e is from lt at h so_far = ap unless (sym (fault_at components first i q (Some e) is from lt at h) ∙ so_far)
+
+  pub no_fault : (i : ℕ) → length list ≤ i → faults_from i ≡ first_fault bank locality window tree list → Ok tt ≡ unless (first_fault bank locality window tree list)
+  no_fault i end so_far =
+      ap unless (sym (ap (first_fault_from bank locality (first_cut window tree) (inside_of window.end tree) i) (drop_all i list end)) ∙ so_far)

@@ -11,9 +11,11 @@ pub mod NumberTexts
 pub mod MaskTexts
 pub mod LineTexts
 pub mod FileLemmas
+pub mod ProofsRead
 pub mod Firsts
 pub mod Growths
 pub mod OverCuts
 pub mod NextLemmas
 pub mod SpreadLemmas
 pub mod AllProved
+pub mod Lines

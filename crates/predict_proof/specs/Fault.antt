@@ -1,11 +1,15 @@
--- For private clauses: what is wrong with a member, by tests.
-use Rattle.std.specs.Prelude.{ℕ, Bool, true, false, ◌&&◌, nat_le, List, [], ◌∷◌, length, take, Option, Some, None, if◌then◌else◌}
+-- What is wrong with a member, by tests, and with a list of them.
+use Rattle.std.specs.Prelude.{ℕ, ◌+◌, Bool, true, false, ◌&&◌, nat_le, List, [], ◌∷◌, length, take, Option, Some, None, Result, Ok, Err, if◌then◌else◌}
+use Rattle.std.specs.Option.{option_or}
 use Rattle.std.specs.Str.{bytes_eq}
 use Rattle.hash_bank.specs.declared.bank.Bank.{Bank}
 use Rattle.component_tree.specs.PlainTree.{PlainComponent}
 use Rattle.policy_digest.specs.Mask.{pcrs_of}
 use Rattle.record_match.specs.Choices.{chosen}
 use Rattle.record_match.specs.Extends.{variants_of}
+use Rattle.predictor.specs.declared.window.Window.{Window}
+use Rattle.predictor.specs.Cuts.{inside_of}
+use Rattle.predictor.specs.Foreseen.{first_cut}
 use Rattle.predict_proof.specs.declared.proof.Proof.{Proof}
 use Rattle.predict_proof.specs.declared.error.CheckError.{CheckError}
 use Rattle.predict_proof.specs.declared.error.CheckError.TheVariants as errors
@@ -36,3 +40,19 @@ abbrev pub fault_of : Bank → ℕ → ℕ → List PlainComponent → ℕ → P
 fault_of bank locality first inside n q =
     fault_by (is_cut first (length inside) q.cut) (is_choice (variants_of (take q.cut inside)) q.choice) (some_lacks bank q.pcrs (chosen (variants_of (take q.cut inside)) q.choice))
     (first_differing (held_by bank locality inside q) (pcrs_of q.pcrs) q.values) n
+
+-- ---- what is wrong with a list
+
+-- the first fault of these members, of which so many stand before
+abbrev pub first_fault_from : Bank → ℕ → ℕ → List PlainComponent → ℕ → List Proof → Option CheckError
+first_fault_from bank locality first inside n [] = None
+first_fault_from bank locality first inside n (q ∷ list) = option_or (fault_of bank locality first inside n q) (first_fault_from bank locality first inside (n + 1) list)
+
+-- the first fault of the list, over the cuts of the window
+abbrev pub first_fault : Bank → ℕ → Window → List PlainComponent → List Proof → Option CheckError
+first_fault bank locality window tree list = first_fault_from bank locality (first_cut window tree) (inside_of window.end tree) 0 list
+
+-- a refusal by the fault, where there is one
+abbrev pub unless : Option CheckError → Result (Unit {0}) CheckError
+unless None = Ok tt
+unless (Some error) = Err error

@@ -7,3 +7,4 @@ pub mod Chosen
 pub mod Fault
 pub mod Words
 pub mod NextProofs
+pub mod ProofsIn

@@ -8,7 +8,7 @@ ghost use Rattle.record_match.specs.Extends.{reached_by};
 ghost use Rattle.predictor.specs.Cuts.{inside_of};
 ghost use Rattle.predict_proof.specs.Proved.{HasShape, Proved, FailsFirst};
 ghost use Rattle.predict_proof.specs.Joint.{IsForeseen};
-ghost use Rattle.predict_proof.specs.Fault.{differing, fault_of, first_differing};
+ghost use Rattle.predict_proof.specs.Fault.{differing, fault_of, first_differing, first_fault, unless};
 
 use crate::error::CheckError;
 use crate::proof::Proof;
@@ -123,6 +123,7 @@ pub fn check(
     requires shaped { All (HasShape bank) list.now }
     ensures proved { IsOk result ↔ All (Proved bank locality window.now (plain tree.now.components)) list.now }
     ensures refused { IfErr result (FailsFirst bank locality window.now (plain tree.now.components) list.now) }
+    ensures answer { result ≡ unless (first_fault bank locality window.now (plain tree.now.components) list.now) }
     ensures foreseen { OnOk result (All (IsForeseen bank locality window.now (plain tree.now.components)) list.now) }
 {
     let components = components_inside(tree, &window.end);

@@ -22,6 +22,3 @@ pub use proof::Proof;
 pub use proving::prove;
 pub use reading::read_proofs;
 pub use writing::write_proofs;
-
-#[cfg(test)]
-mod tests;

@@ -10,6 +10,7 @@ ghost use Rattle.predictor.specs.States.{states_after};
 ghost use Rattle.predictor.specs.Foreseen.{Answers, foreseen_by, foreseen_joint, lacking_error, lacking_in_any, over_cuts};
 ghost use Rattle.predict_proof.specs.NextProofs.{stopped_at};
 ghost use Rattle.predict_proof.specs.Proved.{HasShape, Proved};
+ghost use Rattle.predict_proof.specs.ReadsAs.{IsLine};
 ghost use Rattle.predict_proof.specs.Proving.{all_proofs, first_proofs, proofs_at, same_values, values_in, IsFirstOf};
 
 use crate::checking::components_inside;
@@ -141,6 +142,7 @@ pub fn prove(
     ensures first { IfOk result (All (IsFirstOf (all_proofs bank locality pcrs window.now (plain tree.now.components)))) }
     ensures few { IfOk result (λ list. length list ≤ 512) }
     ensures shaped { IfOk result (All (HasShape bank)) }
+    ensures lines { IfOk result (All (IsLine bank)) }
     ensures proved { IfOk result (All (Proved bank locality window.now (plain tree.now.components))) }
 {
     let components = components_inside(tree, &window.end);

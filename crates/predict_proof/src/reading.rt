@@ -6,6 +6,8 @@ ghost use Rattle.predict_proof.specs.declared.file.ProofFile.{ProofFile as File}
 ghost use Rattle.predict_proof.specs.Proved.{HasShape};
 ghost use Rattle.predict_proof.specs.ProofText.{file_text};
 ghost use Rattle.predict_proof.specs.ReadsAs.{IsFile, ReadsAs, ReadsLines};
+ghost use Rattle.predict_proof.specs.ProofsIn.{proofs_from, proofs_in, AnswersText};
+ghost use Rattle.tpm_commands.specs.Parts.{parts_of};
 ghost use Rattle.predict_proof.specs.Words.{head_of, proof_by, proof_of};
 
 use crate::error::ProofError;
@@ -89,7 +91,8 @@ fn read_proof(alloc: Global, bank: Bank, line: &[u8]) -> Result<Option<Proof>, M
 
 /// The proofs of the lines behind the first one.
 fn read_lines(alloc: Global, bank: Bank, text: &[u8]) -> Result<List<Proof>, ProofError>
-    ensures { ReadsLines bank text.now result }
+    ensures reads { ReadsLines bank text.now result }
+    ensures answer { AnswersText result (proofs_from bank 0 (parts_of 10 text.now)) }
 {
     let mut proofs = List::new(alloc);
     let mut rest = text;
@@ -123,6 +126,7 @@ fn read_lines(alloc: Global, bank: Bank, text: &[u8]) -> Result<List<Proof>, Pro
 /// where a further line begins. `Memory` may come at any step.
 pub fn read_proofs(alloc: Global, bytes: &[u8]) -> Result<ProofFile, ProofError>
     ensures reads { ReadsAs bytes.now result }
+    ensures answer { AnswersText result (proofs_in bytes.now) }
     ensures few { IfOk result (λ file. length file.proofs ≤ 12288) }
     ensures shaped { IfOk result (λ file. All (HasShape file.bank) file.proofs) }
     ensures spelled { (file : File) → IsFile file → bytes.now ≡ file_text file → (result ≡ Ok file) ⊎ (result ≡ Err errors.Memory) }

@@ -1,9 +1,11 @@
 //! Proof files as text.
-ghost use Rattle.std.specs.Prelude.{◌≡◌, ◌++◌, flat_map, codes, IfOk, OnOk, string_bytes};
+ghost use Rattle.std.specs.Prelude.{◌≡◌, ◌++◌, flat_map, codes, Ok, IfOk, OnOk, string_bytes};
 ghost use Rattle.std.specs.List.{All};
 ghost use Rattle.std.specs.Fmt.{decimal};
 ghost use Rattle.hex.specs.Hex.{encode_lower, IsBytes};
 ghost use Rattle.policy_digest.specs.Mask.{pcrs_of};
+ghost use Rattle.predict_proof.specs.ProofsIn.{proofs_in};
+ghost use Rattle.predict_proof.specs.ReadsAs.{IsFile};
 ghost use Rattle.predict_proof.specs.ProofText.{choice_text, file_text, head_text, line, numbers_text, proof_text, proofs_text, values_text};
 
 use crate::file::ProofFile;
@@ -156,6 +158,7 @@ fn proofs_are_bytes(proofs: &[Proof])
 /// Commas part a list, and numbers are decimal without sign and leading zero.
 pub fn write_proofs(alloc: Global, file: &ProofFile) -> Result<Vec<u8>, Memory>
     ensures text { IfOk result (λ text. text.items ≡ file_text file.now) }
+    ensures reads_back { IfOk result (λ text. IsFile file.now → proofs_in text.items ≡ Ok file.now) }
     // What any file keeps, told here for what its text is read as.
     ensures bytes { All (λ q. All IsBytes q.values) file.now.proofs }
 {

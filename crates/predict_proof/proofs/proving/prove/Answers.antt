@@ -1,4 +1,4 @@
-use Rattle.std.proofs.Common.{◌≡◌, ◌≤◌, ℕ, List, Result, None, length, take, sym, ap, ◌∙◌, subst}
+use Rattle.std.proofs.Common.{◌≡◌, ◌≤◌, ℕ, List, Result, None, length, take, sym, ap, ◌∙◌, subst, arith}
 use Rattle.std.specs.List.{All}
 use Rattle.std.specs.Result.{result_map_both}
 use Rattle.std.proofs.lemmas.Result.{IfOk-weaker}
@@ -18,6 +18,7 @@ use Rattle.predict_proof.specs.declared.proof.Proof.{Proof}
 use Rattle.predict_proof.specs.Proving.{all_proofs, values_in, IsFirstOf}
 use Rattle.predict_proof.proofs.Firsts.{firsts_kept}
 use Rattle.predict_proof.proofs.AllProved.{are_first, first_proved, first_shaped}
+use Rattle.predict_proof.proofs.Lines.{result_lines}
 use Rattle.predict_proof.proofs.proving.prove.Goals as goal
 
 pub returns-in-Some-clause-states : goal.returns-in-Some-clause-states
@@ -71,3 +72,8 @@ returns-clause-first c =
     IfOk-weaker c.spread.result _ _
     (λ list h. subst (All (IsFirstOf all)) (sym (are_first c.args.bank c.args.locality c.args.pcrs c.args.window.now tree c.components_inside-components.result.now c.inside-first.result c.as_slice-2.result.now list c.components_inside-components.ensures.value c.inside-first.ensures listed h))
     (firsts_kept (λ (q : Proof). q.values) values_eq values_tell all)) c.spread.ensures.proofs
+
+pub returns-clause-lines : goal.returns-clause-lines
+returns-clause-lines c =
+    result_lines c.args.bank c.args.locality c.args.window.now (plain c.args.tree.now.components) c.components_inside-components.result.now c.components_inside-components.ensures.value c.components_inside-components.ensures.few (omega arith)
+    c.spread.result (returns-clause-shaped c) (returns-clause-proved c)
