@@ -5,3 +5,4 @@ pub mod Split
 pub mod Among
 pub mod Parting
 pub mod FileText
+pub mod FirmwareFiles
