@@ -7,3 +7,6 @@ pub mod ParserSet
 pub mod WindowLemmas
 pub mod Lists
 pub mod Ranges
+pub mod Within
+pub mod Proper
+pub mod PolicyNames

@@ -1,5 +1,5 @@
 -- The parser of a table of options reads the options that words give.
-use Rattle.std.proofs.Common.{◌≡◌, ℕ, Bool, true, false, cond, not, ◌&&◌, ◌||◌, List, [], ◌∷◌, ◌++◌, map, Option, Some, None, refl, sym, ap, ap₂, ◌∙◌, true≢false, append-nil, subst}
+use Rattle.std.proofs.Common.{◌≡◌, ℕ, Bool, true, false, cond, not, ◌&&◌, ◌||◌, List, [], ◌∷◌, ◌++◌, map, Option, Some, None, refl, sym, ap, ap₂, ◌∙◌, true≢false, append-nil}
 use Rattle.std.specs.Prelude.{find, fold, option_map, not, codes}
 use Rattle.std.specs.Option.{option_map_or}
 use Rattle.std.specs.List.{list_any, list_all}
@@ -16,7 +16,7 @@ use Rattle.clap.specs.declared.builder.value_parser.ValueParser.{ValueParser}
 use Rattle.clap.specs.declared.builder.value_parser.ValueParser.TheVariants as vp
 use Rattle.clap.specs.declared.parser.matches.ValueSource.TheVariants.{CommandLine}
 use Rattle.clap.specs.declared.error.kind.ErrorKind.TheVariants as kind
-use Rattle.pcrlock_words.specs.Options.{Entry, Given, given, is_dashed, is_flag, is_known, is_whole, onto, unless_flag, whole}
+use Rattle.pcrlock_words.specs.Options.{Entry, Given, given, is_dashed, is_flag, is_known, onto, unless_flag}
 use Rattle.pcrlock_words.specs.Parser.{empty_parser, is_stray, parser_for, row_for, rule_for}
 use Rattle.pcrlock_words.proofs.ParserWords.{Plain, Attached, Waits, Look, look, plain, attached, waits}
 

@@ -25,7 +25,7 @@ use Rattle.clap.specs.declared.parser.matches.MatchedArg.{MatchedArg}
 use Rattle.clap.specs.declared.parser.matches.Found.{Found}
 use Rattle.clap.specs.declared.parser.matches.ValueSource.TheVariants.{DefaultValue}
 use Rattle.clap.proofs.WalkLemmas.{both, find_row, first_value-rows}
-use Rattle.pcrlock_words.specs.Options.{Entry, Given, accepted, apart, are_taken, around_equals, as_flag, flagged, given, is_dashed, is_flag, is_given, is_known, joined, lacks_one, onto, undashed, unless_flag, value_of, whole}
+use Rattle.pcrlock_words.specs.Options.{Entry, Given, accepted, apart, are_taken, around_equals, as_flag, flagged, given, is_dashed, is_flag, is_given, is_known, joined, lacks_one, onto, undashed, unless_flag, value_of}
 use Rattle.pcrlock_words.specs.Parser.{HasOptions, is_from_words, is_of_words, is_stray, left_in, options_in, parser_for, refusal_of, row_for, row_left}
 use Rattle.pcrlock_words.specs.Readings.{Refuses}
 use Rattle.pcrlock_words.specs.declared.error.WordsError.{WordsError}

@@ -1,12 +1,14 @@
-pub mod Joined
-pub mod Texts
+pub mod ComponentText
 pub mod LogText
 pub mod PredictText
+pub mod GenText
 pub mod Lines
 pub mod Options
 pub mod Values
 pub mod Windows
 pub mod Readings
 pub mod Commands
+pub mod Fields
 pub mod Parser
 pub mod Requests
+pub mod ProperRequest

@@ -1,114 +1,168 @@
 -- Which lists of words the program takes, and the request that each of them spells.
-use Rattle.std.specs.Prelude.{ℕ, ◌==◌, if◌then◌else◌, List, [], ◌∷◌, length, fold, codes, Option, Some, None, is_some}
-use Rattle.std.specs.Str.{bytes_eq}
-use Rattle.hash_bank.specs.declared.bank.Bank.TheVariants.{Sha256}
+use Rattle.std.specs.Prelude.{ℕ, ◌==◌, if◌then◌else◌, List, [], ◌∷◌, length, codes, Option, Some, None, is_some}
+use Rattle.component_make.specs.declared.kind.FirmwareKind.TheVariants.{Code, Config}
 use Rattle.pcrlock_words.specs.declared.command.Command.{Command}
 use Rattle.pcrlock_words.specs.declared.command.Command.TheVariants as commands
 use Rattle.pcrlock_words.specs.declared.request.Request.{Request}
 use Rattle.pcrlock_words.specs.declared.request.Request.TheVariants as requests
 use Rattle.pcrlock_words.specs.Options.{Given, is_given, value_of}
-use Rattle.pcrlock_words.specs.Values.{◌>>=◌, required, optional, defaulted, path_of, pcr_of, pcrs_of, with_pcr, bank_of, key_of, hex_of, index_of, all_banks, banks_of, folders_of, locality_of}
-use Rattle.pcrlock_words.specs.Windows.{location_in_force}
+use Rattle.pcrlock_words.specs.Values.{◌>>=◌}
 use Rattle.pcrlock_words.specs.Commands.{command_named, options_for}
+use Rattle.pcrlock_words.specs.Fields.{path_in, path_beside, firmware_log_in, userspace_log_in, components_in, location_in, pcrs_in, pcr_in, bank_in, banks_in, index_in, optional_index_in, pin_in, key_in, literal_in, literal_bank_in, optional_locality_in, locality_in, clients_in, client_limit, number_in, extended_bytes, standing_policy, policy_in, made_beside}
 
--- the policy path in force: the script's inside a script, else that of --policy or its default
-abbrev pub policy_in_force : Option (List ℕ) → List Given → Option (List ℕ)
-policy_in_force (Some policy) options = Some policy
-policy_in_force None options = defaulted path_of (codes "pcrlock.policy") (value_of (codes "policy") options)
-
--- a token path, which is not the policy path in force
-abbrev pub token_beside : List ℕ → List Given → Option (List ℕ)
-token_beside policy options = do
-  token ← required path_of (value_of (codes "token") options)
-  if bytes_eq token policy then None else Some token
-
--- the bytes of --text or of --hex, of which exactly one is given
-abbrev pub extended_bytes : Option (List ℕ) → Option (List ℕ) → Option (List ℕ)
-extended_bytes (Some text) None = Some text
-extended_bytes None (Some digits) = hex_of digits
-extended_bytes (Some text) (Some digits) = None
-extended_bytes None None = None
-
--- the folders of components where no option gives them, the first on top (systemd.pcrlock(5))
-abbrev pub default_folders : List (List ℕ)
-default_folders =
-    codes "/etc/pcrlock.d" ∷ codes "/run/pcrlock.d" ∷ codes "/var/lib/pcrlock.d" ∷ codes "/usr/local/lib/pcrlock.d"
-    ∷ codes "/usr/lib/pcrlock.d" ∷ []
-
--- the PCRs where no option gives them, 0 to 5, 7, and 11 to 15 (systemd-pcrlock(8))
-abbrev pub default_pcrs : ℕ
-default_pcrs = fold with_pcr 0 (0 ∷ 1 ∷ 2 ∷ 3 ∷ 4 ∷ 5 ∷ 7 ∷ 11 ∷ 12 ∷ 13 ∷ 14 ∷ 15 ∷ [])
-
--- the request of each command with these options
+-- the request of each command with these options; where the policy path counts, with the script's
 abbrev pub script_request : List Given → Option Request
 script_request options = do
-  file ← required path_of (value_of (codes "file") options)
-  policy ← policy_in_force None options
-  index ← defaulted index_of 0x01800100 (value_of (codes "index") options)
+  file ← path_in (codes "file") options
+  policy ← policy_in None options
+  index ← index_in options
   Some (requests.Script file policy index)
 
 abbrev pub log_request : List Given → Option Request
 log_request options = do
-  firmware_log ← optional path_of (value_of (codes "firmware-log") options)
-  userspace_log ← optional path_of (value_of (codes "userspace-log") options)
-  components ← defaulted folders_of default_folders (value_of (codes "components") options)
-  bank ← defaulted bank_of Sha256 (value_of (codes "bank") options)
+  firmware_log ← firmware_log_in options
+  userspace_log ← userspace_log_in options
+  components ← components_in options
+  bank ← bank_in options
   Some (requests.Log firmware_log userspace_log components bank)
 
 abbrev pub cel_request : List Given → Option Request
 cel_request options = do
-  firmware_log ← optional path_of (value_of (codes "firmware-log") options)
-  userspace_log ← optional path_of (value_of (codes "userspace-log") options)
+  firmware_log ← firmware_log_in options
+  userspace_log ← userspace_log_in options
   Some (requests.Cel firmware_log userspace_log)
 
 abbrev pub list_components_request : List Given → Option Request
 list_components_request options = do
-  components ← defaulted folders_of default_folders (value_of (codes "components") options)
+  components ← components_in options
   Some (requests.ListComponents components)
 
 abbrev pub predict_request : List Given → Option Request
 predict_request options = do
-  firmware_log ← optional path_of (value_of (codes "firmware-log") options)
-  userspace_log ← optional path_of (value_of (codes "userspace-log") options)
-  components ← defaulted folders_of default_folders (value_of (codes "components") options)
-  location ← location_in_force (value_of (codes "location") options)
-  pcr ← defaulted pcrs_of default_pcrs (value_of (codes "pcr") options)
-  bank ← defaulted bank_of Sha256 (value_of (codes "bank") options)
+  firmware_log ← firmware_log_in options
+  userspace_log ← userspace_log_in options
+  components ← components_in options
+  location ← location_in options
+  pcr ← pcrs_in options
+  bank ← bank_in options
   Some (requests.Predict firmware_log userspace_log components location pcr bank (is_given (codes "joint") options))
+
+abbrev pub make_policy_request : Option (List ℕ) → List Given → Option Request
+make_policy_request script_policy options = do
+  firmware_log ← firmware_log_in options
+  userspace_log ← userspace_log_in options
+  components ← components_in options
+  location ← location_in options
+  pcr ← pcrs_in options
+  bank ← bank_in options
+  policy ← policy_in script_policy options
+  index ← optional_index_in options
+  pin ← pin_in options
+  Some (requests.MakePolicy firmware_log userspace_log components location pcr bank policy index pin (is_given (codes "force") options) (is_given (codes "joint") options))
+
+abbrev pub remove_policy_request : Option (List ℕ) → List Given → Option Request
+remove_policy_request script_policy options = do
+  policy ← policy_in script_policy options
+  Some (requests.RemovePolicy policy)
 
 abbrev pub enroll_request : Option (List ℕ) → List Given → Option Request
 enroll_request script_policy options = do
-  policy ← policy_in_force script_policy options
-  token ← token_beside policy options
-  key ← optional key_of (value_of (codes "key") options)
-  literal ← required pcr_of (value_of (codes "literal") options)
-  bank ← defaulted bank_of Sha256 (value_of (codes "bank") options)
-  Some (requests.Enroll token policy key (Some literal) bank)
+  policy ← policy_in script_policy options
+  token ← path_beside policy (codes "token") options
+  key ← key_in options
+  literal ← literal_in options
+  bank ← literal_bank_in literal options
+  Some (requests.Enroll token policy key literal bank)
 
 abbrev pub unseal_request : Option (List ℕ) → List Given → Option Request
 unseal_request script_policy options = do
-  policy ← policy_in_force script_policy options
-  token ← token_beside policy options
+  policy ← policy_in script_policy options
+  token ← path_beside policy (codes "token") options
   Some (requests.Unseal token policy)
 
 abbrev pub tpm_boot_request : List Given → Option Request
 tpm_boot_request options = do
-  firmware_log ← optional path_of (value_of (codes "firmware-log") options)
-  userspace_log ← optional path_of (value_of (codes "userspace-log") options)
-  locality ← optional locality_of (value_of (codes "locality") options)
-  banks ← defaulted banks_of all_banks (value_of (codes "banks") options)
+  firmware_log ← firmware_log_in options
+  userspace_log ← userspace_log_in options
+  locality ← optional_locality_in options
+  banks ← banks_in options
   Some (requests.TpmBoot firmware_log userspace_log locality banks)
 
 abbrev pub tpm_extend_request : List Given → Option Request
 tpm_extend_request options = do
-  pcr ← required pcr_of (value_of (codes "pcr") options)
+  pcr ← pcr_in options
   bytes ← extended_bytes (value_of (codes "text") options) (value_of (codes "hex") options)
   Some (requests.TpmExtend pcr bytes)
 
 abbrev pub tpm_exec_request : List Given → Option Request
 tpm_exec_request options = do
-  commands ← required path_of (value_of (codes "commands") options)
+  commands ← path_in (codes "commands") options
   Some (requests.TpmExec commands)
+
+abbrev pub race_request : Option (List ℕ) → List Given → Option Request
+race_request script_policy options = do
+  policy ← policy_in script_policy options
+  token ← path_beside policy (codes "token") options
+  events ← path_in (codes "events") options
+  clients ← clients_in (client_limit (is_given (codes "broker") options)) options
+  Some (requests.Race events token clients policy (is_given (codes "broker") options))
+
+abbrev pub gen_request : List Given → Option Request
+gen_request options = do
+  number ← number_in options
+  Some (requests.Gen number)
+
+abbrev pub lock_firmware_code_request : Option (List ℕ) → List Given → Option Request
+lock_firmware_code_request script_policy options = do
+  firmware_log ← firmware_log_in options
+  made ← made_beside (standing_policy script_policy) Code options
+  Some (requests.LockFirmwareCode firmware_log made.folder made.variant)
+
+abbrev pub lock_firmware_config_request : Option (List ℕ) → List Given → Option Request
+lock_firmware_config_request script_policy options = do
+  firmware_log ← firmware_log_in options
+  made ← made_beside (standing_policy script_policy) Config options
+  Some (requests.LockFirmwareConfig firmware_log made.folder made.variant)
+
+abbrev pub unlock_firmware_code_request : Option (List ℕ) → List Given → Option Request
+unlock_firmware_code_request script_policy options = do
+  made ← made_beside (standing_policy script_policy) Code options
+  Some (requests.UnlockFirmwareCode made.folder made.variant)
+
+abbrev pub unlock_firmware_config_request : Option (List ℕ) → List Given → Option Request
+unlock_firmware_config_request script_policy options = do
+  made ← made_beside (standing_policy script_policy) Config options
+  Some (requests.UnlockFirmwareConfig made.folder made.variant)
+
+abbrev pub lock_raw_request : Option (List ℕ) → List Given → Option Request
+lock_raw_request script_policy options = do
+  file ← path_in (codes "file") options
+  pcr ← pcr_in options
+  output ← path_beside (standing_policy script_policy) (codes "output") options
+  Some (requests.LockRaw file pcr output)
+
+abbrev pub broker_request : List Given → Option Request
+broker_request options = do
+  commands ← path_in (codes "commands") options
+  clients ← clients_in 16 options
+  Some (requests.Broker commands clients)
+
+abbrev pub prove_request : Option (List ℕ) → List Given → Option Request
+prove_request script_policy options = do
+  output ← path_beside (standing_policy script_policy) (codes "output") options
+  components ← components_in options
+  location ← location_in options
+  pcr ← pcrs_in options
+  bank ← bank_in options
+  locality ← locality_in options
+  Some (requests.Prove output components location pcr bank locality (is_given (codes "joint") options))
+
+abbrev pub check_proof_request : List Given → Option Request
+check_proof_request options = do
+  proof ← path_in (codes "proof") options
+  components ← components_in options
+  location ← location_in options
+  Some (requests.CheckProof proof components location)
 
 abbrev pub command_request : Option (List ℕ) → Command → List Given → Option Request
 command_request script_policy commands.Script options = script_request options
@@ -116,11 +170,23 @@ command_request script_policy commands.Log options = log_request options
 command_request script_policy commands.Cel options = cel_request options
 command_request script_policy commands.ListComponents options = list_components_request options
 command_request script_policy commands.Predict options = predict_request options
+command_request script_policy commands.MakePolicy options = make_policy_request script_policy options
+command_request script_policy commands.RemovePolicy options = remove_policy_request script_policy options
 command_request script_policy commands.Enroll options = enroll_request script_policy options
 command_request script_policy commands.Unseal options = unseal_request script_policy options
 command_request script_policy commands.TpmBoot options = tpm_boot_request options
 command_request script_policy commands.TpmExtend options = tpm_extend_request options
 command_request script_policy commands.TpmExec options = tpm_exec_request options
+command_request script_policy commands.Race options = race_request script_policy options
+command_request script_policy commands.Gen options = gen_request options
+command_request script_policy commands.LockFirmwareCode options = lock_firmware_code_request script_policy options
+command_request script_policy commands.LockFirmwareConfig options = lock_firmware_config_request script_policy options
+command_request script_policy commands.UnlockFirmwareCode options = unlock_firmware_code_request script_policy options
+command_request script_policy commands.UnlockFirmwareConfig options = unlock_firmware_config_request script_policy options
+command_request script_policy commands.LockRaw options = lock_raw_request script_policy options
+command_request script_policy commands.Broker options = broker_request options
+command_request script_policy commands.Prove options = prove_request script_policy options
+command_request script_policy commands.CheckProof options = check_proof_request options
 
 -- the request of a command and the words behind its name
 abbrev pub options_request : Option (List ℕ) → Command → List (List ℕ) → Option Request

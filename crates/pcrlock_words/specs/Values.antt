@@ -1,6 +1,6 @@
 -- How the values of options are read.
 use Rattle.std.specs.Prelude.{ℕ, Bool, true, false, ◌==◌, ◌&&◌, ◌||◌, not, bit_or, ◌^◌, nat_le, slice_index, if◌then◌else◌, List, [], ◌∷◌, length, find, Option, Some, None, option_map}
-use Rattle.std.specs.List.{list_any, slice_split}
+use Rattle.std.specs.List.{list_all, list_any, slice_split}
 use Rattle.std.specs.Result.{result_ok}
 use Rattle.std.specs.Str.{bytes_eq}
 use Rattle.std.specs.Str.Parse.{digits_value}
@@ -48,6 +48,16 @@ abbrev pub number_up_to : ℕ → List ℕ → Option ℕ
 number_up_to limit value =
     let n = digits_value 10 value in
     if nat_le n limit && bytes_eq value (decimal n) then Some n else None
+
+-- so many clients as there may be, at least one
+abbrev pub clients_up_to : ℕ → List ℕ → Option ℕ
+clients_up_to limit value = do
+  clients ← number_up_to limit value
+  if clients == 0 then None else Some clients
+
+-- the number of a machine that is made
+abbrev pub machine_of : List ℕ → Option ℕ
+machine_of value = number_up_to 511 value
 
 -- a PCR's number
 abbrev pub pcr_of : List ℕ → Option ℕ
@@ -125,6 +135,19 @@ key_of value = bytes_between 2 256 value
 -- the bytes of at most 128 pairs of digits
 abbrev pub hex_of : List ℕ → Option (List ℕ)
 hex_of value = bytes_between 0 256 value
+
+-- a pin, of 32 bytes
+abbrev pub pin_of : List ℕ → Option (List ℕ)
+pin_of value = result_ok (decode_sized value 32)
+
+-- a byte of a variant's name: a graphic character of ASCII, but no slash
+abbrev pub is_variant_byte : ℕ → Bool
+is_variant_byte byte = nat_le 0x21 byte && nat_le byte 0x7e && not (byte == 47)
+
+-- the name of a variant, 1 to 200 such bytes
+abbrev pub variant_of : List ℕ → Option (List ℕ)
+variant_of value =
+    if nat_le 1 (length value) && nat_le (length value) 200 && list_all is_variant_byte value then Some value else None
 
 -- a handle of an NV index, 01000000 to 01ffffff (TPM 2.0 Library Part 2, TPM_HT_NV_INDEX)
 abbrev pub nv_handle : ℕ → Option ℕ

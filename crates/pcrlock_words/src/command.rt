@@ -15,11 +15,23 @@ pub(crate) enum Command {
     Cel,
     ListComponents,
     Predict,
+    MakePolicy,
+    RemovePolicy,
     Enroll,
     Unseal,
     TpmBoot,
     TpmExtend,
     TpmExec,
+    Race,
+    Gen,
+    LockFirmwareCode,
+    LockFirmwareConfig,
+    UnlockFirmwareCode,
+    UnlockFirmwareConfig,
+    LockRaw,
+    Broker,
+    Prove,
+    CheckProof,
 }
 
 // The name of an option, which has to be given or may be left out, or of a flag. Each option has a value,
@@ -54,6 +66,22 @@ static PREDICT: [Entry; 7] = [
     Flag("joint"),
 ];
 
+static MAKE_POLICY: [Entry; 11] = [
+    Free("firmware-log"),
+    Free("userspace-log"),
+    Free("components"),
+    Free("location"),
+    Free("pcr"),
+    Free("bank"),
+    Flag("joint"),
+    Free("policy"),
+    Free("index"),
+    Free("pin"),
+    Flag("force"),
+];
+
+static REMOVE_POLICY: [Entry; 1] = [Free("policy")];
+
 static ENROLL: [Entry; 5] = [
     Needed("token"),
     Free("policy"),
@@ -74,6 +102,36 @@ static TPM_BOOT: [Entry; 4] = [
 static TPM_EXTEND: [Entry; 3] = [Needed("pcr"), Free("text"), Free("hex")];
 
 static TPM_EXEC: [Entry; 1] = [Needed("commands")];
+
+static RACE: [Entry; 5] = [
+    Needed("events"),
+    Needed("token"),
+    Needed("clients"),
+    Free("policy"),
+    Flag("broker"),
+];
+
+static GEN: [Entry; 1] = [Needed("number")];
+
+static LOCK_FIRMWARE: [Entry; 3] = [Free("firmware-log"), Needed("folder"), Free("variant")];
+
+static UNLOCK_FIRMWARE: [Entry; 2] = [Needed("folder"), Free("variant")];
+
+static LOCK_RAW: [Entry; 3] = [Needed("file"), Needed("pcr"), Needed("output")];
+
+static BROKER: [Entry; 2] = [Needed("commands"), Needed("clients")];
+
+static PROVE: [Entry; 7] = [
+    Needed("output"),
+    Free("components"),
+    Free("location"),
+    Free("pcr"),
+    Free("bank"),
+    Free("locality"),
+    Flag("joint"),
+];
+
+static CHECK_PROOF: [Entry; 3] = [Needed("proof"), Free("components"), Free("location")];
 
 impl Entry {
     // Whether the option stands with its command, inside a script or outside. Inside there are none of
@@ -102,17 +160,29 @@ impl Entry {
 
 impl Command {
     // Every command.
-    const ALL: [Command; 10] = [
+    const ALL: [Command; 22] = [
         Command::Script,
         Command::Log,
         Command::Cel,
         Command::ListComponents,
         Command::Predict,
+        Command::MakePolicy,
+        Command::RemovePolicy,
         Command::Enroll,
         Command::Unseal,
         Command::TpmBoot,
         Command::TpmExtend,
         Command::TpmExec,
+        Command::Race,
+        Command::Gen,
+        Command::LockFirmwareCode,
+        Command::LockFirmwareConfig,
+        Command::UnlockFirmwareCode,
+        Command::UnlockFirmwareConfig,
+        Command::LockRaw,
+        Command::Broker,
+        Command::Prove,
+        Command::CheckProof,
     ];
 
     // The word that names the command.
@@ -125,11 +195,23 @@ impl Command {
             Command::Cel => "cel",
             Command::ListComponents => "list-components",
             Command::Predict => "predict",
+            Command::MakePolicy => "make-policy",
+            Command::RemovePolicy => "remove-policy",
             Command::Enroll => "enroll",
             Command::Unseal => "unseal",
             Command::TpmBoot => "tpm-boot",
             Command::TpmExtend => "tpm-extend",
             Command::TpmExec => "tpm-exec",
+            Command::Race => "race",
+            Command::Gen => "gen",
+            Command::LockFirmwareCode => "lock-firmware-code",
+            Command::LockFirmwareConfig => "lock-firmware-config",
+            Command::UnlockFirmwareCode => "unlock-firmware-code",
+            Command::UnlockFirmwareConfig => "unlock-firmware-config",
+            Command::LockRaw => "lock-raw",
+            Command::Broker => "broker",
+            Command::Prove => "prove",
+            Command::CheckProof => "check-proof",
         }
     }
 
@@ -168,11 +250,23 @@ impl Command {
             Command::Cel => CEL.as_slice(),
             Command::ListComponents => LIST_COMPONENTS.as_slice(),
             Command::Predict => PREDICT.as_slice(),
+            Command::MakePolicy => MAKE_POLICY.as_slice(),
+            Command::RemovePolicy => REMOVE_POLICY.as_slice(),
             Command::Enroll => ENROLL.as_slice(),
             Command::Unseal => UNSEAL.as_slice(),
             Command::TpmBoot => TPM_BOOT.as_slice(),
             Command::TpmExtend => TPM_EXTEND.as_slice(),
             Command::TpmExec => TPM_EXEC.as_slice(),
+            Command::Race => RACE.as_slice(),
+            Command::Gen => GEN.as_slice(),
+            Command::LockFirmwareCode | Command::LockFirmwareConfig => LOCK_FIRMWARE.as_slice(),
+            Command::UnlockFirmwareCode | Command::UnlockFirmwareConfig => {
+                UNLOCK_FIRMWARE.as_slice()
+            }
+            Command::LockRaw => LOCK_RAW.as_slice(),
+            Command::Broker => BROKER.as_slice(),
+            Command::Prove => PROVE.as_slice(),
+            Command::CheckProof => CHECK_PROOF.as_slice(),
         }
     }
 

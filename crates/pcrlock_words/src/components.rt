@@ -2,7 +2,7 @@
 
 ghost use Rattle.std.specs.Prelude.{◌≡◌, ◌++◌, IfOk, OnOk, string_bytes};
 ghost use Rattle.component_tree.specs.PlainTree.{plain, plain_component, plain_variant};
-ghost use Rattle.pcrlock_words.specs.Texts.{component_text, components_text, variant_text};
+ghost use Rattle.pcrlock_words.specs.ComponentText.{component_text, components_text, variant_text};
 
 use component_tree::{Component, Tree, Variant};
 use pl_base::Memory;
@@ -11,7 +11,7 @@ use std::fmt::Write;
 
 /// The lines of `list-components`: of each variant, in the order of the tree, its component's name, its
 /// own, and how many records it has.
-#[tactic(auto, unfolding(crate::specs::Texts::components_text))]
+#[tactic(auto, unfolding(crate::specs::ComponentText::components_text))]
 pub fn components_text(alloc: Global, tree: &Tree) -> Result<Vec<u8>, Memory>
     ensures { IfOk result (λ text. text.items ≡ components_text (plain tree.now.components)) }
 {

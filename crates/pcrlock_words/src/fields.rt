@@ -1,20 +1,19 @@
-//! The values of a command's options, or what stands where an option is left out.
+//! The fields of requests, by the options that give them or what stands where an option is left out.
 
-ghost use Rattle.std.specs.Prelude.{option_copied};
-ghost use Rattle.hash_bank.specs.declared.bank.Bank.TheVariants.{Sha256};
+ghost use Rattle.std.specs.Prelude.{◌≡◌, IfOk, option_copied};
 ghost use Rattle.pcrlock_words.specs.Readings.{Gives};
-ghost use Rattle.pcrlock_words.specs.Requests.{default_folders, default_pcrs, extended_bytes, policy_in_force, token_beside};
-ghost use Rattle.pcrlock_words.specs.Values.{all_banks, bank_of, banks_of, defaulted, folders_of, index_of, key_of, locality_of, optional, path_of, pcr_of, pcrs_of, required};
-ghost use Rattle.pcrlock_words.specs.Windows.{location_in_force};
+ghost use Rattle.pcrlock_words.specs.Fields.{bank_in, banks_in, client_limit, clients_in, components_in, default_folders, default_pcrs, extended_bytes, firmware_log_in, index_in, key_in, literal_bank_in, literal_in, locality_in, location_in, made_beside, makes_at, number_in, optional_index_in, optional_locality_in, optional_path_in, path_beside, path_in, pcr_in, pcrs_in, pin_in, policy_in, standing_policy, userspace_log_in, variant_in};
 
 use crate::error::WordsError;
 use crate::options::Options;
 use crate::values::{
-    names, read_bank, read_banks, read_folders, read_hex, read_index, read_key, read_locality,
-    read_location, read_path, read_pcr, read_pcrs,
+    names, read_bank, read_banks, read_clients, read_folders, read_hex, read_index, read_key,
+    read_locality, read_location, read_machine, read_path, read_pcr, read_pcrs, read_pin,
+    read_variant,
 };
+use component_make::{FirmwareKind, early_path, late_path};
 use hash_bank::{Bank, Banks};
-use pl_base::{List, Name, Small};
+use pl_base::{List, Memory, Name, Small};
 use predictor::Window;
 use std::alloc::Global;
 
@@ -27,8 +26,16 @@ const DEFAULT_INDEX: u32 = 0x0180_0100;
 // The window where no option gives it.
 const DEFAULT_LOCATION: &str = "760-:940-";
 
+// The variant of a lock where no option gives it.
+const DEFAULT_VARIANT: &str = "generated";
+
 // The mask of the PCRs where no option gives them: 0 to 5, 7, and 11 to 15.
 const DEFAULT_PCRS: u32 = 0xf8bf;
+
+// How many clients there may be, and how many beside a broker.
+const CLIENT_LIMIT: u32 = 16;
+
+const BROKER_LIMIT: u32 = 15;
 
 // The banks where no option gives them.
 const ALL_BANKS: Banks = Banks {
@@ -47,85 +54,228 @@ static DEFAULT_FOLDERS: [&str; 5] = [
     "/usr/lib/pcrlock.d",
 ];
 
+/// The folder and the variant of the two files that a lock of the firmware makes.
+#[derive(Drop)]
+pub(crate) struct MadeFiles {
+    pub folder: Name,
+    pub variant: Name,
+}
+
 /// A path that has to be given.
-pub(crate) fn required_path(alloc: Global, value: Option<&str>) -> Result<Name, WordsError>
-    ensures { Gives result (required path_of (option_copied value.entry)) }
+pub(crate) fn path(alloc: Global, options: &Options<'_>, name: &str) -> Result<Name, WordsError>
+    ensures { Gives result (path_in name.now options.now) }
 {
-    match value {
+    match options.value(name) {
         Some(value) => read_path(alloc, value),
         None => Err(WordsError::BadWords),
     }
 }
 
-/// The policy path in force: the script's, or that of --policy, or its default.
-pub(crate) fn policy_path(
+// A path that may be left out.
+fn optional_path(
     alloc: Global,
     options: &Options<'_>,
-    script_policy: Option<&Name>,
-) -> Result<Name, WordsError>
-    ensures { Gives result (policy_in_force (option_copied script_policy.entry) options.now) }
+    name: &str,
+) -> Result<Option<Name>, WordsError>
+    ensures { Gives result (optional_path_in name.now options.now) }
 {
-    if let Some(policy) = script_policy {
-        return Ok(policy.copy(alloc)?);
-    }
-    match options.value("policy") {
-        Some(value) => read_path(alloc, value),
-        None => Ok(Name::from_text(alloc, DEFAULT_POLICY)?),
-    }
-}
-
-/// The token's path, which is not the policy path in force.
-pub(crate) fn token_path(
-    alloc: Global,
-    options: &Options<'_>,
-    policy: &Name,
-) -> Result<Name, WordsError>
-    ensures { Gives result (token_beside policy.now options.now) }
-{
-    let token = required_path(alloc, options.value("token"))?;
-    if token.text() == policy.text() {
-        return Err(WordsError::BadWords);
-    }
-    Ok(token)
-}
-
-/// The key, where one is given.
-pub(crate) fn key_value(alloc: Global, value: Option<&str>) -> Result<Option<Small>, WordsError>
-    ensures { Gives result (optional key_of (option_copied value.entry)) }
-{
-    match value {
-        Some(value) => Ok(Some(read_key(alloc, value)?)),
+    match options.value(name) {
+        Some(value) => Ok(Some(read_path(alloc, value)?)),
         None => Ok(None),
     }
 }
 
-/// The number of a PCR, which has to be given.
-pub(crate) fn pcr_value(value: Option<&str>) -> Result<u8, WordsError>
-    ensures { Gives result (required pcr_of (option_copied value.entry)) }
+/// The firmware log's path, where it is given.
+pub(crate) fn firmware_log(alloc: Global, options: &Options<'_>) -> Result<Option<Name>, WordsError>
+    ensures { Gives result (firmware_log_in options.now) }
 {
-    match value {
+    optional_path(alloc, options, "firmware-log")
+}
+
+/// The userspace log's path, where it is given.
+pub(crate) fn userspace_log(
+    alloc: Global,
+    options: &Options<'_>,
+) -> Result<Option<Name>, WordsError>
+    ensures { Gives result (userspace_log_in options.now) }
+{
+    optional_path(alloc, options, "userspace-log")
+}
+
+/// The folders of components, or their defaults.
+pub(crate) fn components(alloc: Global, options: &Options<'_>) -> Result<List<Name>, WordsError>
+    ensures { Gives result (components_in options.now) }
+{
+    match options.value("components") {
+        Some(value) => read_folders(alloc, value),
+        None => Ok(names(alloc, DEFAULT_FOLDERS.as_slice())?),
+    }
+}
+
+/// The window, or its default.
+pub(crate) fn location(alloc: Global, options: &Options<'_>) -> Result<Window, WordsError>
+    ensures { Gives result (location_in options.now) }
+{
+    match options.value("location") {
+        Some(value) => read_location(alloc, value),
+        None => read_location(alloc, DEFAULT_LOCATION),
+    }
+}
+
+/// The mask of the asked PCRs, or its default.
+pub(crate) fn pcrs(alloc: Global, options: &Options<'_>) -> Result<u32, WordsError>
+    ensures { Gives result (pcrs_in options.now) }
+{
+    match options.value("pcr") {
+        Some(value) => read_pcrs(alloc, value),
+        None => Ok(DEFAULT_PCRS),
+    }
+}
+
+/// The number of a PCR, which has to be given.
+pub(crate) fn pcr(options: &Options<'_>) -> Result<u8, WordsError>
+    ensures { Gives result (pcr_in options.now) }
+{
+    match options.value("pcr") {
         Some(value) => read_pcr(value).ok_or(WordsError::BadWords),
         None => Err(WordsError::BadWords),
     }
 }
 
 /// The bank, or SHA-256.
-pub(crate) fn bank_value(value: Option<&str>) -> Result<Bank, WordsError>
-    ensures { Gives result (defaulted bank_of Sha256 (option_copied value.entry)) }
+pub(crate) fn bank(options: &Options<'_>) -> Result<Bank, WordsError>
+    ensures { Gives result (bank_in options.now) }
 {
-    match value {
+    match options.value("bank") {
         Some(value) => read_bank(value).ok_or(WordsError::BadWords),
         None => Ok(Bank::Sha256),
     }
 }
 
-/// The handle of the NV index, or its default.
-pub(crate) fn index_value(value: Option<&str>) -> Result<u32, WordsError>
-    ensures { Gives result (defaulted index_of DEFAULT_INDEX (option_copied value.entry)) }
+/// The banks, or all of them.
+pub(crate) fn banks(alloc: Global, options: &Options<'_>) -> Result<Banks, WordsError>
+    ensures { Gives result (banks_in options.now) }
 {
-    match value {
+    match options.value("banks") {
+        Some(value) => read_banks(alloc, value),
+        None => Ok(ALL_BANKS),
+    }
+}
+
+/// The handle of a script's NV index, or its default.
+pub(crate) fn index(options: &Options<'_>) -> Result<u32, WordsError>
+    ensures { Gives result (index_in options.now) }
+{
+    match options.value("index") {
         Some(value) => read_index(value).ok_or(WordsError::BadWords),
         None => Ok(DEFAULT_INDEX),
+    }
+}
+
+/// The handle of a policy's NV index, where one is given.
+pub(crate) fn optional_index(options: &Options<'_>) -> Result<Option<u32>, WordsError>
+    ensures { Gives result (optional_index_in options.now) }
+{
+    match options.value("index") {
+        Some(value) => Ok(Some(read_index(value).ok_or(WordsError::BadWords)?)),
+        None => Ok(None),
+    }
+}
+
+/// The pin, where one is given.
+pub(crate) fn pin(options: &Options<'_>) -> Result<Option<[u8; 32]>, WordsError>
+    ensures { Gives result (pin_in options.now) }
+{
+    match options.value("pin") {
+        Some(value) => Ok(Some(read_pin(value).ok_or(WordsError::BadWords)?)),
+        None => Ok(None),
+    }
+}
+
+/// The key, where one is given.
+pub(crate) fn key(alloc: Global, options: &Options<'_>) -> Result<Option<Small>, WordsError>
+    ensures { Gives result (key_in options.now) }
+{
+    match options.value("key") {
+        Some(value) => Ok(Some(read_key(alloc, value)?)),
+        None => Ok(None),
+    }
+}
+
+/// The number of the PCR to whose value an object is bound, where one is given.
+pub(crate) fn literal(options: &Options<'_>) -> Result<Option<u8>, WordsError>
+    ensures { Gives result (literal_in options.now) }
+{
+    match options.value("literal") {
+        Some(value) => Ok(Some(read_pcr(value).ok_or(WordsError::BadWords)?)),
+        None => Ok(None),
+    }
+}
+
+/// The bank of such a value, or SHA-256. Without the value no bank may be given.
+pub(crate) fn literal_bank(options: &Options<'_>, literal: Option<u8>) -> Result<Bank, WordsError>
+    ensures { Gives result (literal_bank_in literal options.now) }
+{
+    if literal.is_none() && options.has("bank") {
+        return Err(WordsError::BadWords);
+    }
+    bank(options)
+}
+
+/// The locality of a start, where one is given.
+pub(crate) fn optional_locality(options: &Options<'_>) -> Result<Option<u8>, WordsError>
+    ensures { Gives result (optional_locality_in options.now) }
+{
+    match options.value("locality") {
+        Some(value) => Ok(Some(read_locality(value).ok_or(WordsError::BadWords)?)),
+        None => Ok(None),
+    }
+}
+
+/// The locality of proofs, or 0.
+pub(crate) fn locality(options: &Options<'_>) -> Result<u8, WordsError>
+    ensures { Gives result (locality_in options.now) }
+{
+    match options.value("locality") {
+        Some(value) => read_locality(value).ok_or(WordsError::BadWords),
+        None => Ok(0),
+    }
+}
+
+// How many clients there may be. A broker is one more.
+fn client_limit(broker: bool) -> u32
+    ensures { result ≡ client_limit broker }
+{
+    if broker { BROKER_LIMIT } else { CLIENT_LIMIT }
+}
+
+/// The number of clients, which has to be given, without a broker between or with one.
+pub(crate) fn clients(options: &Options<'_>, broker: bool) -> Result<u32, WordsError>
+    ensures { Gives result (clients_in (client_limit broker) options.now) }
+{
+    match options.value("clients") {
+        Some(value) => read_clients(value, client_limit(broker)).ok_or(WordsError::BadWords),
+        None => Err(WordsError::BadWords),
+    }
+}
+
+/// The number of a machine that is made, which has to be given.
+pub(crate) fn number(options: &Options<'_>) -> Result<u32, WordsError>
+    ensures { Gives result (number_in options.now) }
+{
+    match options.value("number") {
+        Some(value) => read_machine(value).ok_or(WordsError::BadWords),
+        None => Err(WordsError::BadWords),
+    }
+}
+
+// The variant of a lock, or its default.
+fn variant(alloc: Global, options: &Options<'_>) -> Result<Name, WordsError>
+    ensures { Gives result (variant_in options.now) }
+{
+    match options.value("variant") {
+        Some(value) => read_variant(alloc, value),
+        None => Ok(Name::from_text(alloc, DEFAULT_VARIANT)?),
     }
 }
 
@@ -144,62 +294,74 @@ pub(crate) fn extended(
     }
 }
 
-/// A path that may be left out.
-pub(crate) fn optional_path(alloc: Global, value: Option<&str>) -> Result<Option<Name>, WordsError>
-    ensures { Gives result (optional path_of (option_copied value.entry)) }
+/// The policy path in force where no option gives it: the script's, or the default.
+pub(crate) fn standing_policy(alloc: Global, script_policy: Option<&Name>) -> Result<Name, Memory>
+    ensures { IfOk result (λ policy. policy ≡ standing_policy (option_copied script_policy.entry)) }
 {
-    match value {
-        Some(value) => Ok(Some(read_path(alloc, value)?)),
-        None => Ok(None),
+    match script_policy {
+        Some(policy) => policy.copy(alloc),
+        None => Name::from_text(alloc, DEFAULT_POLICY),
     }
 }
 
-/// The folders of components, or their defaults.
-pub(crate) fn folders(alloc: Global, value: Option<&str>) -> Result<List<Name>, WordsError>
-    ensures { Gives result (defaulted folders_of default_folders (option_copied value.entry)) }
+/// The policy path in force: that of --policy, which no line of a script has, or else the one that stands.
+pub(crate) fn policy(
+    alloc: Global,
+    options: &Options<'_>,
+    script_policy: Option<&Name>,
+) -> Result<Name, WordsError>
+    ensures { Gives result (policy_in (option_copied script_policy.entry) options.now) }
 {
-    match value {
-        Some(value) => read_folders(alloc, value),
-        None => Ok(names(alloc, DEFAULT_FOLDERS.as_slice())?),
+    match options.value("policy") {
+        Some(value) => read_path(alloc, value),
+        None => Ok(standing_policy(alloc, script_policy)?),
     }
 }
 
-/// The locality, where one is given.
-pub(crate) fn locality_value(value: Option<&str>) -> Result<Option<u8>, WordsError>
-    ensures { Gives result (optional locality_of (option_copied value.entry)) }
+/// A path that has to be given, and is not the policy path in force.
+pub(crate) fn path_beside(
+    alloc: Global,
+    options: &Options<'_>,
+    name: &str,
+    policy: &Name,
+) -> Result<Name, WordsError>
+    ensures { Gives result (path_beside policy.now name.now options.now) }
 {
-    match value {
-        Some(value) => Ok(Some(read_locality(value).ok_or(WordsError::BadWords)?)),
-        None => Ok(None),
+    let path = path(alloc, options, name)?;
+    if path.text() == policy.text() {
+        return Err(WordsError::BadWords);
     }
+    Ok(path)
 }
 
-/// The banks, or all of them.
-pub(crate) fn banks_value(alloc: Global, value: Option<&str>) -> Result<Banks, WordsError>
-    ensures { Gives result (defaulted banks_of all_banks (option_copied value.entry)) }
+// Whether one of the two files of a lock stands at the path.
+fn makes_at(
+    alloc: Global,
+    kind: FirmwareKind,
+    made: &MadeFiles,
+    path: &Name,
+) -> Result<bool, Memory>
+    ensures { IfOk result (λ stands. stands ≡ makes_at kind made.now path.now) }
 {
-    match value {
-        Some(value) => read_banks(alloc, value),
-        None => Ok(ALL_BANKS),
-    }
+    let early = early_path(alloc, kind, &made.folder, &made.variant)?;
+    let late = late_path(alloc, kind, &made.folder, &made.variant)?;
+    Ok(early.text() == path.text() || late.text() == path.text())
 }
 
-/// The window, or its default.
-pub(crate) fn location_value(alloc: Global, value: Option<&str>) -> Result<Window, WordsError>
-    ensures { Gives result (location_in_force (option_copied value.entry)) }
+/// The two files of a lock, neither of which is the policy file.
+pub(crate) fn made_beside(
+    alloc: Global,
+    options: &Options<'_>,
+    kind: FirmwareKind,
+    policy: &Name,
+) -> Result<MadeFiles, WordsError>
+    ensures { Gives result (made_beside policy.now kind options.now) }
 {
-    match value {
-        Some(value) => read_location(alloc, value),
-        None => read_location(alloc, DEFAULT_LOCATION),
+    let folder = path(alloc, options, "folder")?;
+    let variant = variant(alloc, options)?;
+    let made = MadeFiles { folder, variant };
+    if makes_at(alloc, kind, &made, policy)? {
+        return Err(WordsError::BadWords);
     }
-}
-
-/// The mask of the PCRs, or its default.
-pub(crate) fn pcrs_value(alloc: Global, value: Option<&str>) -> Result<u32, WordsError>
-    ensures { Gives result (defaulted pcrs_of default_pcrs (option_copied value.entry)) }
-{
-    match value {
-        Some(value) => read_pcrs(alloc, value),
-        None => Ok(DEFAULT_PCRS),
-    }
+    Ok(made)
 }

@@ -6,33 +6,31 @@
 //! answer other than success is told.
 #![tactic(auto)]
 
-mod answer;
 mod command;
 mod components;
+mod counts;
 mod error;
 mod fields;
+mod generated;
 mod lines;
 mod log;
 mod options;
-mod place;
 mod predict;
 mod read;
 mod request;
-#[cfg(test)]
-mod tests;
-mod texts;
+mod requests;
 mod values;
 
-pub use answer::Answer;
 pub use components::components_text;
+pub use counts::counts_text;
 pub use error::WordsError;
+pub use generated::gen_text;
 pub use lines::split_line;
 pub use log::log_text;
-pub use place::Place;
+pub use pcrlock_answer::{
+    Answer, Place, answer_line, checked_line, enrolled_line, key_line, locked_line, pin_line,
+    proved_line, records_line, status_line, unlocked_line,
+};
 pub use predict::predict_text;
 pub use read::read_words;
 pub use request::Request;
-pub use texts::{
-    answer_line, checked_line, enrolled_line, key_line, locked_line, pin_line, proved_line,
-    records_line, status_line, unlocked_line,
-};

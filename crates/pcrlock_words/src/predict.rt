@@ -5,13 +5,14 @@ ghost use Rattle.std.specs.Fmt.{decimal};
 ghost use Rattle.hex.specs.Hex.{encode_lower};
 ghost use Rattle.component_tree.specs.PlainTree.{plain};
 ghost use Rattle.policy_digest.specs.Mask.{has_pcr, pcrs_of};
-ghost use Rattle.pcrlock_words.specs.Joined.{mask_text, with_commas};
+ghost use Rattle.pcrlock_answer.specs.Joined.{mask_text, with_commas};
 ghost use Rattle.pcrlock_words.specs.PredictText.{each_text, joint_text, left_text, one_pcr_text, predict_text, together_text, value_text, values_text};
 
 use crate::log::component_id;
 use component_tree::Tree;
 use hash_bank::Digest;
-use pl_base::{List, Memory};
+use pcrlock_answer::{pcrs_in, write_pcrs};
+use pl_base::Memory;
 use policy_digest::{Row, Values, is_in_mask};
 use predictor::{Cause, LeftOut, Protection};
 use std::alloc::Global;
@@ -61,41 +62,6 @@ fn write_values(text: &mut String, digests: &[Digest]) -> Result<(), Memory>
     write!(text, "{first}")?;
     write_more(text, others)?;
     Ok(())
-}
-
-// Writes further numbers, each behind a comma.
-fn write_more_pcrs(text: &mut String, pcrs: &[u8]) -> Result<(), Memory>
-    ensures { OnOk result (string_bytes text.new ≡ string_bytes text.old ++ flat_map (λ pcr. codes "," ++ decimal pcr) pcrs.now) }
-{
-    for pcr in pcrs {
-        write!(text, ",{pcr}")?;
-    }
-    Ok(())
-}
-
-// Writes numbers with commas between.
-pub(crate) fn write_pcrs(text: &mut String, pcrs: &[u8]) -> Result<(), Memory>
-    ensures { OnOk result (string_bytes text.new ≡ string_bytes text.old ++ with_commas (map decimal pcrs.now)) }
-{
-    let Some((first, others)) = pcrs.split_first() else {
-        return Ok(());
-    };
-    write!(text, "{first}")?;
-    write_more_pcrs(text, others)?;
-    Ok(())
-}
-
-// The PCRs of the mask, ascending.
-pub(crate) fn pcrs_in(alloc: Global, mask: u32) -> Result<List<u8>, Memory>
-    ensures { IfOk result (λ pcrs. pcrs ≡ pcrs_of mask) }
-{
-    let mut pcrs = List::new(alloc);
-    for pcr in 0..24u8 {
-        if is_in_mask(mask, pcr) {
-            pcrs.push(pcr)?;
-        }
-    }
-    Ok(pcrs)
 }
 
 // Writes the line of a PCR that is left out.
@@ -149,7 +115,12 @@ fn write_rows_of(text: &mut String, pcr: u8, rows: &[Row]) -> Result<(), Memory>
 }
 
 // Writes why the PCR is left out, where it is.
-fn write_left_of(text: &mut String, pcr: u8, left: &[LeftOut], tree: &Tree) -> Result<(), Memory>
+pub(crate) fn write_left_of(
+    text: &mut String,
+    pcr: u8,
+    left: &[LeftOut],
+    tree: &Tree,
+) -> Result<(), Memory>
     ensures { OnOk result (string_bytes text.new ≡ string_bytes text.old ++ flat_map (left_text (plain tree.now.components)) (filter (λ left. left.pcr == pcr) left.now)) }
 {
     for one in left {
@@ -214,7 +185,7 @@ fn write_rows(alloc: Global, text: &mut String, rows: &[Row]) -> Result<(), Memo
 }
 
 // Writes why each of these PCRs is left out.
-fn write_all_left(text: &mut String, left: &[LeftOut], tree: &Tree) -> Result<(), Memory>
+pub(crate) fn write_all_left(text: &mut String, left: &[LeftOut], tree: &Tree) -> Result<(), Memory>
     ensures { OnOk result (string_bytes text.new ≡ string_bytes text.old ++ flat_map (left_text (plain tree.now.components)) left.now) }
 {
     for one in left {

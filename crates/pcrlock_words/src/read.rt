@@ -1,15 +1,14 @@
-ghost use Rattle.std.specs.Prelude.{option_copied};
+ghost use Rattle.std.specs.Prelude.{IfOk, option_copied};
+ghost use Rattle.pcrlock_words.specs.Fields.{standing_policy};
+ghost use Rattle.pcrlock_words.specs.ProperRequest.{IsProperRequest, SparesPolicy};
 ghost use Rattle.pcrlock_words.specs.Readings.{Gives};
-ghost use Rattle.pcrlock_words.specs.Requests.{cel_request, command_request, enroll_request, line_request, list_components_request, log_request, options_request, predict_request, request_of, script_request, tpm_boot_request, tpm_exec_request, tpm_extend_request, unseal_request};
+ghost use Rattle.pcrlock_words.specs.Requests.{command_request, line_request, options_request, request_of};
 
 use crate::command::Command;
 use crate::error::WordsError;
-use crate::fields::{
-    bank_value, banks_value, extended, folders, index_value, key_value, locality_value,
-    location_value, optional_path, pcr_value, pcrs_value, policy_path, required_path, token_path,
-};
 use crate::options::{Options, texts};
 use crate::request::Request;
+use crate::requests;
 use pl_base::Name;
 use std::alloc::Global;
 
@@ -19,7 +18,7 @@ use std::alloc::Global;
 /// at least one byte. A command's name follows, and then the command's options, each at most once and
 /// in any order, as `--name value` or `--name=value`. Inside a script the words begin with the
 /// command's name, and `script_policy` is the path of the script's policy file, which then holds. The
-/// flag `--joint` has no value.
+/// flags `--joint`, `--force` and `--broker` have no value.
 ///
 /// | Command | Options |
 /// |---|---|
@@ -28,17 +27,44 @@ use std::alloc::Global;
 /// | `cel` | at will `--firmware-log`, `--userspace-log` |
 /// | `list-components` | at will `--components` |
 /// | `predict` | those of `log`, and at will `--location`, `--pcr`, `--joint` |
-/// | `enroll` | `--token`, `--literal`, and at will `--policy`, `--key`, `--bank` |
+/// | `make-policy` | those of `predict`, and at will `--policy`, `--index`, `--pin`, `--force` |
+/// | `remove-policy` | at will `--policy` |
+/// | `enroll` | `--token`, and at will `--policy`, `--key`, `--literal`, with which `--bank` |
 /// | `unseal` | `--token`, and at will `--policy` |
 /// | `tpm-boot` | at will `--firmware-log`, `--userspace-log`, `--locality`, `--banks` |
 /// | `tpm-extend` | `--pcr`, and one of `--text` and `--hex` |
 /// | `tpm-exec` | `--commands` |
+/// | `race` | `--events`, `--token`, `--clients`, and at will `--policy`, `--broker` |
+/// | `gen` | `--number` |
+/// | `lock-firmware-code`, `lock-firmware-config` | `--folder`, and at will `--firmware-log`, `--variant` |
+/// | `unlock-firmware-code`, `unlock-firmware-config` | `--folder`, and at will `--variant` |
+/// | `lock-raw` | `--file`, `--pcr`, `--output` |
+/// | `broker` | `--commands`, `--clients` |
+/// | `prove` | `--output`, and at will `--components`, `--location`, `--pcr`, `--bank`, `--locality`, `--joint` |
+/// | `check-proof` | `--proof`, and at will `--components`, `--location` |
 ///
-/// `BadWords` comes exactly where the words are none of these, a value is none of its option's, a token
-/// path is the policy path in force, or a line of a script has the command `script` or the option
-/// `--policy`. `Memory` has no cause that is named.
-#[tactic(auto, unfolding(crate::specs::Requests::request_of))]
+/// `BadWords` comes exactly where the words are none of these, a value is none of its option's, a token path, an
+/// output or a file that a lock makes or an unlock takes out is the policy path in force, `race --broker` has more
+/// than 15 clients, or a line of a script has the command `script` or the option `--policy` or `--index`. `Memory`
+/// has no cause that is named.
+///
+/// What is read is proper: each number is within the bounds of its option, and no file that it makes is the policy
+/// file.
 pub fn read_words(
+    alloc: Global,
+    words: &[Name],
+    script_policy: Option<&Name>,
+) -> Result<Request, WordsError>
+    ensures spelled { Gives result (request_of words.now (option_copied script_policy.entry)) }
+    ensures proper { IfOk result IsProperRequest }
+    ensures spares { IfOk result (SparesPolicy (standing_policy (option_copied script_policy.entry))) }
+{
+    read_request(alloc, words, script_policy)
+}
+
+// The request that words spell.
+#[tactic(auto, unfolding(crate::specs::Requests::request_of))]
+fn read_request(
     alloc: Global,
     words: &[Name],
     script_policy: Option<&Name>,
@@ -95,155 +121,33 @@ fn read_command(
     ensures { Gives result (command_request (option_copied script_policy.entry) command options.now) }
 {
     match command {
-        Command::Script => script(alloc, options),
-        Command::Log => log(alloc, options),
-        Command::Cel => cel(alloc, options),
-        Command::ListComponents => list_components(alloc, options),
-        Command::Predict => predict(alloc, options),
-        Command::Enroll => enroll(alloc, options, script_policy),
-        Command::Unseal => unseal(alloc, options, script_policy),
-        Command::TpmBoot => tpm_boot(alloc, options),
-        Command::TpmExtend => tpm_extend(alloc, options),
-        Command::TpmExec => tpm_exec(alloc, options),
+        Command::Script => requests::script(alloc, options),
+        Command::Log => requests::log(alloc, options),
+        Command::Cel => requests::cel(alloc, options),
+        Command::ListComponents => requests::list_components(alloc, options),
+        Command::Predict => requests::predict(alloc, options),
+        Command::MakePolicy => requests::make_policy(alloc, options, script_policy),
+        Command::RemovePolicy => requests::remove_policy(alloc, options, script_policy),
+        Command::Enroll => requests::enroll(alloc, options, script_policy),
+        Command::Unseal => requests::unseal(alloc, options, script_policy),
+        Command::TpmBoot => requests::tpm_boot(alloc, options),
+        Command::TpmExtend => requests::tpm_extend(alloc, options),
+        Command::TpmExec => requests::tpm_exec(alloc, options),
+        Command::Race => requests::race(alloc, options, script_policy),
+        Command::Gen => requests::generate(options),
+        Command::LockFirmwareCode => requests::lock_firmware_code(alloc, options, script_policy),
+        Command::LockFirmwareConfig => {
+            requests::lock_firmware_config(alloc, options, script_policy)
+        }
+        Command::UnlockFirmwareCode => {
+            requests::unlock_firmware_code(alloc, options, script_policy)
+        }
+        Command::UnlockFirmwareConfig => {
+            requests::unlock_firmware_config(alloc, options, script_policy)
+        }
+        Command::LockRaw => requests::lock_raw(alloc, options, script_policy),
+        Command::Broker => requests::broker(alloc, options),
+        Command::Prove => requests::prove(alloc, options, script_policy),
+        Command::CheckProof => requests::check_proof(alloc, options),
     }
-}
-
-// The request of `script` with these options.
-fn script(alloc: Global, options: &Options<'_>) -> Result<Request, WordsError>
-    ensures { Gives result (script_request options.now) }
-{
-    let file = required_path(alloc, options.value("file"))?;
-    let policy = policy_path(alloc, options, None)?;
-    let index = index_value(options.value("index"))?;
-    Ok(Request::Script {
-        file,
-        policy,
-        index,
-    })
-}
-
-// The request of `log` with these options.
-fn log(alloc: Global, options: &Options<'_>) -> Result<Request, WordsError>
-    ensures { Gives result (log_request options.now) }
-{
-    let firmware_log = optional_path(alloc, options.value("firmware-log"))?;
-    let userspace_log = optional_path(alloc, options.value("userspace-log"))?;
-    let components = folders(alloc, options.value("components"))?;
-    let bank = bank_value(options.value("bank"))?;
-    Ok(Request::Log {
-        firmware_log,
-        userspace_log,
-        components,
-        bank,
-    })
-}
-
-// The request of `cel` with these options.
-fn cel(alloc: Global, options: &Options<'_>) -> Result<Request, WordsError>
-    ensures { Gives result (cel_request options.now) }
-{
-    let firmware_log = optional_path(alloc, options.value("firmware-log"))?;
-    let userspace_log = optional_path(alloc, options.value("userspace-log"))?;
-    Ok(Request::Cel {
-        firmware_log,
-        userspace_log,
-    })
-}
-
-// The request of `list-components` with these options.
-fn list_components(alloc: Global, options: &Options<'_>) -> Result<Request, WordsError>
-    ensures { Gives result (list_components_request options.now) }
-{
-    let components = folders(alloc, options.value("components"))?;
-    Ok(Request::ListComponents { components })
-}
-
-// The request of `predict` with these options.
-fn predict(alloc: Global, options: &Options<'_>) -> Result<Request, WordsError>
-    ensures { Gives result (predict_request options.now) }
-{
-    let firmware_log = optional_path(alloc, options.value("firmware-log"))?;
-    let userspace_log = optional_path(alloc, options.value("userspace-log"))?;
-    let components = folders(alloc, options.value("components"))?;
-    let location = location_value(alloc, options.value("location"))?;
-    let pcr = pcrs_value(alloc, options.value("pcr"))?;
-    let bank = bank_value(options.value("bank"))?;
-    let joint = options.has("joint");
-    Ok(Request::Predict {
-        firmware_log,
-        userspace_log,
-        components,
-        location,
-        pcr,
-        bank,
-        joint,
-    })
-}
-
-// The request of `enroll` with these options.
-fn enroll(
-    alloc: Global,
-    options: &Options<'_>,
-    script_policy: Option<&Name>,
-) -> Result<Request, WordsError>
-    ensures { Gives result (enroll_request (option_copied script_policy.entry) options.now) }
-{
-    let policy = policy_path(alloc, options, script_policy)?;
-    let token = token_path(alloc, options, &policy)?;
-    let key = key_value(alloc, options.value("key"))?;
-    let literal = pcr_value(options.value("literal"))?;
-    let bank = bank_value(options.value("bank"))?;
-    Ok(Request::Enroll {
-        token,
-        policy,
-        key,
-        literal: Some(literal),
-        bank,
-    })
-}
-
-// The request of `unseal` with these options.
-fn unseal(
-    alloc: Global,
-    options: &Options<'_>,
-    script_policy: Option<&Name>,
-) -> Result<Request, WordsError>
-    ensures { Gives result (unseal_request (option_copied script_policy.entry) options.now) }
-{
-    let policy = policy_path(alloc, options, script_policy)?;
-    let token = token_path(alloc, options, &policy)?;
-    Ok(Request::Unseal { token, policy })
-}
-
-// The request of `tpm-boot` with these options.
-fn tpm_boot(alloc: Global, options: &Options<'_>) -> Result<Request, WordsError>
-    ensures { Gives result (tpm_boot_request options.now) }
-{
-    let firmware_log = optional_path(alloc, options.value("firmware-log"))?;
-    let userspace_log = optional_path(alloc, options.value("userspace-log"))?;
-    let locality = locality_value(options.value("locality"))?;
-    let banks = banks_value(alloc, options.value("banks"))?;
-    Ok(Request::TpmBoot {
-        firmware_log,
-        userspace_log,
-        locality,
-        banks,
-    })
-}
-
-// The request of `tpm-extend` with these options.
-fn tpm_extend(alloc: Global, options: &Options<'_>) -> Result<Request, WordsError>
-    ensures { Gives result (tpm_extend_request options.now) }
-{
-    let pcr = pcr_value(options.value("pcr"))?;
-    let bytes = extended(alloc, options.value("text"), options.value("hex"))?;
-    Ok(Request::TpmExtend { pcr, bytes })
-}
-
-// The request of `tpm-exec` with these options.
-fn tpm_exec(alloc: Global, options: &Options<'_>) -> Result<Request, WordsError>
-    ensures { Gives result (tpm_exec_request options.now) }
-{
-    let commands = required_path(alloc, options.value("commands"))?;
-    Ok(Request::TpmExec { commands })
 }

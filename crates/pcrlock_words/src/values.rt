@@ -1,7 +1,7 @@
 ghost use Rattle.std.specs.Prelude.{◌≡◌, ◌≤◌, ◌==◌, ◌&&◌, IfOk, IfSome, length, map, nat_le, not};
-ghost use Rattle.std.specs.List.{list_any};
+ghost use Rattle.std.specs.List.{list_all, list_any};
 ghost use Rattle.pcrlock_words.specs.Readings.{Gives};
-ghost use Rattle.pcrlock_words.specs.Values.{bank_of, banks_of, bytes_between, folders_of, hex_of, index_of, is_plain, key_of, locality_of, no_bank, number_up_to, nv_handle, parts_of, path_of, pcr_of, pcrs_of, with_bank, with_banks, with_pcr, with_pcrs};
+ghost use Rattle.pcrlock_words.specs.Values.{bank_of, banks_of, bytes_between, clients_up_to, folders_of, hex_of, index_of, is_plain, is_variant_byte, key_of, locality_of, machine_of, no_bank, number_up_to, nv_handle, parts_of, path_of, pcr_of, pcrs_of, pin_of, variant_of, with_bank, with_banks, with_pcr, with_pcrs};
 ghost use Rattle.pcrlock_words.specs.Windows.{location_of};
 
 use crate::error::WordsError;
@@ -25,6 +25,12 @@ const NO_BANK: Banks = Banks {
 
 // The greatest number of a PCR.
 const LAST_PCR: u32 = 23;
+
+// The greatest number of a machine that is made.
+const LAST_MACHINE: u32 = 511;
+
+// How many bytes a variant's name may have.
+const VARIANT_LIMIT: usize = 200;
 
 /// A path, which has at least one byte.
 pub(crate) fn read_path(alloc: Global, value: &str) -> Result<Name, WordsError>
@@ -53,6 +59,21 @@ fn read_number(value: &str, limit: u32) -> Option<u32>
     } else {
         None
     }
+}
+
+/// A number of clients, from 1 to a limit.
+pub(crate) fn read_clients(value: &str, limit: u32) -> Option<u32>
+    ensures { result ≡ clients_up_to limit value.now }
+{
+    let clients = read_number(value, limit)?;
+    (clients != 0).then_some(clients)
+}
+
+/// The number of a machine that is made.
+pub(crate) fn read_machine(value: &str) -> Option<u32>
+    ensures { result ≡ machine_of value.now }
+{
+    read_number(value, LAST_MACHINE)
 }
 
 /// The bank of this name.
@@ -173,6 +194,37 @@ pub(crate) fn read_index(value: &str) -> Option<u32>
 {
     let bytes = <[u8; 4]>::from_hex(value).ok()?;
     nv_handle(u32::from_be_bytes(bytes))
+}
+
+/// A pin of 32 bytes, in 64 hexadecimal digits.
+pub(crate) fn read_pin(value: &str) -> Option<[u8; 32]>
+    ensures { result ≡ pin_of value.now }
+{
+    <[u8; 32]>::from_hex(value).ok()
+}
+
+// Whether a byte may stand in a variant's name: a graphic character of ASCII, but no slash.
+fn is_variant_byte(byte: u8) -> bool
+    ensures { result ≡ is_variant_byte byte }
+{
+    0x21 <= byte && byte <= 0x7e && byte != b'/'
+}
+
+// Whether all bytes may stand in a variant's name.
+fn are_variant_bytes(bytes: &[u8]) -> bool
+    ensures { result ≡ list_all is_variant_byte bytes.now }
+{
+    bytes.iter().all(|byte| is_variant_byte(*byte))
+}
+
+/// A variant's name, of 1 to 200 such bytes.
+pub(crate) fn read_variant(alloc: Global, value: &str) -> Result<Name, WordsError>
+    ensures { Gives result (variant_of value.now) }
+{
+    if value.is_empty() || VARIANT_LIMIT < value.len() || !are_variant_bytes(value.as_bytes()) {
+        return Err(WordsError::BadWords);
+    }
+    Ok(Name::from_text(alloc, value)?)
 }
 
 // The bytes of pairs of hexadecimal digits, of which there are between `low` and `high`.

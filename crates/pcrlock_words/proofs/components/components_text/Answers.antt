@@ -2,7 +2,7 @@ use Rattle.std.proofs.Common.{List, ap, ◌∙◌, flat_map}
 use Rattle.std.proofs.lemmas.List.{take_all}
 use Rattle.component_tree.specs.PlainTree.{plain_component}
 use Rattle.component_tree.specs.declared.tree.Component.{Component}
-use Rattle.pcrlock_words.specs.Texts.{component_text, components_text}
+use Rattle.pcrlock_words.specs.ComponentText.{component_text, components_text}
 use Rattle.pcrlock_words.proofs.Lists.{flat_map-map}
 use Rattle.pcrlock_words.proofs.components.components_text.Goals as goal
 

@@ -2,7 +2,7 @@ use Rattle.std.proofs.Common.{◌++◌, List, ap, ◌∙◌, flat_map, string_by
 use Rattle.std.proofs.lemmas.List.{take_all}
 use Rattle.component_tree.specs.PlainTree.{plain_variant}
 use Rattle.component_tree.specs.declared.tree.Variant.{Variant}
-use Rattle.pcrlock_words.specs.Texts.{variant_text}
+use Rattle.pcrlock_words.specs.ComponentText.{variant_text}
 use Rattle.pcrlock_words.proofs.Lists.{flat_map-map}
 use Rattle.pcrlock_words.proofs.components.write_component.Goals as goal
 

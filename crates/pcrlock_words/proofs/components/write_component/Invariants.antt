@@ -1,6 +1,6 @@
 use Rattle.std.proofs.Common.{◌≡◌, ◌++◌, take, flat_map, string_bytes}
 use Rattle.component_tree.specs.PlainTree.{plain_variant}
-use Rattle.pcrlock_words.specs.Texts.{variant_text}
+use Rattle.pcrlock_words.specs.ComponentText.{variant_text}
 use Rattle.pcrlock_words.proofs.components.write_component.Given as goal
 
 abbrev pub invariant-loop-variant : goal.invariant-loop-variant

@@ -1,4 +1,4 @@
-use Rattle.std.proofs.Common.{◌≡◌, ◌++◌, [], flat_map, string_bytes, None}
+use Rattle.std.proofs.Common.{◌≡◌, ◌++◌, [], string_bytes, None}
 use Rattle.std.specs.Prelude.{slice_index_or}
 use Rattle.pcrlock_words.specs.LogText.{pcr_text}
 use Rattle.pcrlock_words.proofs.Ranges.{texts_from}

@@ -4,7 +4,7 @@ use Rattle.clap.specs.Kinds.{HasKind}
 use Rattle.clap.specs.Words.{HasMatchesOf, app_of, fault_of, is_simple_and_free, kind_of}
 use Rattle.clap.proofs.WalkLemmas.{list_any-map}
 use Rattle.pcrlock_words.specs.declared.command.Command.{Command}
-use Rattle.pcrlock_words.specs.declared.command.Command.TheVariants.{Script, Log, Cel, ListComponents, Predict, Enroll, Unseal, TpmBoot, TpmExtend, TpmExec}
+use Rattle.pcrlock_words.specs.declared.command.Command.TheVariants.{Script, Log, Cel, ListComponents, Predict, MakePolicy, RemovePolicy, Enroll, Unseal, TpmBoot, TpmExtend, TpmExec, Race, Gen, LockFirmwareCode, LockFirmwareConfig, UnlockFirmwareCode, UnlockFirmwareConfig, LockRaw, Broker, Prove, CheckProof}
 use Rattle.pcrlock_words.specs.Commands.{options_for, options_of}
 use Rattle.pcrlock_words.specs.Options.{is_known}
 use Rattle.pcrlock_words.specs.Parser.{is_stray, parser_for, refusal_of}
@@ -21,21 +21,45 @@ named true Log = refl
 named true Cel = refl
 named true ListComponents = refl
 named true Predict = refl
+named true MakePolicy = refl
+named true RemovePolicy = refl
 named true Enroll = refl
 named true Unseal = refl
 named true TpmBoot = refl
 named true TpmExtend = refl
 named true TpmExec = refl
+named true Race = refl
+named true Gen = refl
+named true LockFirmwareCode = refl
+named true LockFirmwareConfig = refl
+named true UnlockFirmwareCode = refl
+named true UnlockFirmwareConfig = refl
+named true LockRaw = refl
+named true Broker = refl
+named true Prove = refl
+named true CheckProof = refl
 named false Script = refl
 named false Log = refl
 named false Cel = refl
 named false ListComponents = refl
 named false Predict = refl
+named false MakePolicy = refl
+named false RemovePolicy = refl
 named false Enroll = refl
 named false Unseal = refl
 named false TpmBoot = refl
 named false TpmExtend = refl
 named false TpmExec = refl
+named false Race = refl
+named false Gen = refl
+named false LockFirmwareCode = refl
+named false LockFirmwareConfig = refl
+named false UnlockFirmwareCode = refl
+named false UnlockFirmwareConfig = refl
+named false LockRaw = refl
+named false Broker = refl
+named false Prove = refl
+named false CheckProof = refl
 
 abbrev texts : List (Bor (List ℕ)) → List (List ℕ)
 texts = map (λ word. word.now)
