@@ -2,7 +2,7 @@
 use Rattle.std.proofs.Common.{◌≡◌, ℕ, Bool, List, sym, ap, ◌∙◌, subst}
 use Rattle.std.specs.Prelude.{Option, None, Some, Result, Ok, Err, is_some, unwrap_or}
 use Rattle.pl_base.specs.FileMap.{FileMap}
-use Rattle.pcrlock_words.specs.declared.answer.Answer.{Answer}
+use Rattle.pcrlock_answer.specs.declared.answer.Answer.{Answer}
 use Rattle.pcrlock_line.specs.Content.{Content, content_of}
 use Rattle.pcrlock_input.specs.declared.error.InputError.{InputError}
 use Rattle.pcrlock_input.specs.Answering.{Answers}

@@ -1,6 +1,6 @@
 -- What reading an input of a command answers.
 use Rattle.std.specs.Prelude.{◌≡◌, ℕ, ◌≤◌, List, length, Result, Ok, Err}
-use Rattle.pcrlock_words.specs.declared.answer.Answer.{Answer}
+use Rattle.pcrlock_answer.specs.declared.answer.Answer.{Answer}
 use Rattle.pcrlock_line.specs.declared.reading.Found.{Found}
 use Rattle.pcrlock_line.specs.declared.reading.Found.TheVariants as found
 use Rattle.pcrlock_input.specs.declared.error.InputError.{InputError}

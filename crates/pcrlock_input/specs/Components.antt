@@ -9,10 +9,10 @@ use Rattle.component_tree.specs.declared.error.TreeError.{TreeError}
 use Rattle.component_tree.specs.declared.error.TreeError.TheVariants as tree
 use Rattle.component_tree.specs.PlainTree.{PlainComponent}
 use Rattle.component_tree.specs.Reading.{tree_in}
-use Rattle.pcrlock_words.specs.declared.answer.Answer.{Answer}
-use Rattle.pcrlock_words.specs.declared.answer.Answer.TheVariants as said
-use Rattle.pcrlock_words.specs.declared.place.Place.{Place}
-use Rattle.pcrlock_words.specs.declared.place.Place.TheVariants as place
+use Rattle.pcrlock_answer.specs.declared.answer.Answer.{Answer}
+use Rattle.pcrlock_answer.specs.declared.answer.Answer.TheVariants as said
+use Rattle.pcrlock_answer.specs.declared.place.Place.{Place}
+use Rattle.pcrlock_answer.specs.declared.place.Place.TheVariants as place
 
 -- where a component file is malformed: its record of this number, or the whole. That it has too many
 -- records is a limit, and no reading ends for want of memory

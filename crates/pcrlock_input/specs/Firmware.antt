@@ -5,9 +5,9 @@ use Rattle.tcg_log.specs.declared.error.LogError.{LogError}
 use Rattle.tcg_log.specs.declared.error.LogError.TheVariants as log
 use Rattle.tcg_log.specs.declared.log.FirmwareLog.{FirmwareLog}
 use Rattle.tcg_log.specs.Reading.{log_at}
-use Rattle.pcrlock_words.specs.declared.answer.Answer.{Answer}
-use Rattle.pcrlock_words.specs.declared.answer.Answer.TheVariants as said
-use Rattle.pcrlock_words.specs.declared.place.Place.TheVariants as place
+use Rattle.pcrlock_answer.specs.declared.answer.Answer.{Answer}
+use Rattle.pcrlock_answer.specs.declared.answer.Answer.TheVariants as said
+use Rattle.pcrlock_answer.specs.declared.place.Place.TheVariants as place
 use Rattle.pcrlock_line.specs.Content.{Content, Missing, TooLarge, Bytes, content_of}
 
 -- where the kernel shows the log, which is read where no option names another

@@ -10,7 +10,7 @@ use Rattle.userspace_log.specs.UserText.{text_limit}
 use Rattle.pcr_replay.specs.declared.record.Origin.TheVariants.{User}
 use Rattle.pcr_replay.specs.Combined.{firmware_rows}
 use Rattle.pcr_replay.specs.Row.{Row}
-use Rattle.pcrlock_words.specs.declared.answer.Answer.{Answer}
+use Rattle.pcrlock_answer.specs.declared.answer.Answer.{Answer}
 use Rattle.pcrlock_input.specs.declared.logs.Logs.{Logs}
 use Rattle.pcrlock_input.specs.Answering.{◌>>=◌}
 use Rattle.pcrlock_input.specs.Firmware.{firmware_of}

@@ -5,9 +5,9 @@ use Rattle.userspace_log.specs.declared.error.SeqError.{SeqError}
 use Rattle.userspace_log.specs.declared.error.SeqError.TheVariants as log
 use Rattle.userspace_log.specs.Found.{Found, none_found}
 use Rattle.userspace_log.specs.UserText.{log_of}
-use Rattle.pcrlock_words.specs.declared.answer.Answer.{Answer}
-use Rattle.pcrlock_words.specs.declared.answer.Answer.TheVariants as said
-use Rattle.pcrlock_words.specs.declared.place.Place.TheVariants as place
+use Rattle.pcrlock_answer.specs.declared.answer.Answer.{Answer}
+use Rattle.pcrlock_answer.specs.declared.answer.Answer.TheVariants as said
+use Rattle.pcrlock_answer.specs.declared.place.Place.TheVariants as place
 use Rattle.pcrlock_line.specs.Content.{Content, Missing, TooLarge, Bytes, content_of}
 
 -- where systemd writes the log, which is read where no option names another

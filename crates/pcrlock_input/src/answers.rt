@@ -2,7 +2,7 @@
 ghost use Rattle.std.specs.Prelude.{◌≡◌, IfOk};
 
 use crate::error::InputError;
-use pcrlock_words::{Answer, Place};
+use pcrlock_answer::{Answer, Place};
 use pl_base::{Memory, Name};
 use std::alloc::Global;
 

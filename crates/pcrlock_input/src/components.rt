@@ -11,7 +11,7 @@ use crate::answers::too_many;
 use crate::error::InputError;
 use cel_record::RecordsError;
 use component_tree::{Tree, TreeError, TreeLimit, load_tree};
-use pcrlock_words::{Answer, Place};
+use pcrlock_answer::{Answer, Place};
 use pl_base::{Files, Memory, Name};
 use std::alloc::Global;
 

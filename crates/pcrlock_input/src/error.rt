@@ -1,7 +1,7 @@
 ghost use Rattle.std.specs.Prelude.{◌≡◌};
 ghost use Rattle.pcrlock_input.specs.declared.error.InputError.TheVariants.{Memory as OutOfMemory};
 
-use pcrlock_words::Answer;
+use pcrlock_answer::Answer;
 use pl_base::Memory;
 
 /// Why an input of a command can't be used.

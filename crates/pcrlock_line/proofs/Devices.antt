@@ -4,7 +4,7 @@ use Rattle.std.specs.Prelude.{Option, None, Some, IfOk, IfErr, Result, Ok, Err}
 use Rattle.pl_base.specs.FileMap.{FileMap}
 use Rattle.tpm_model.specs.declared.parts.Parts.{Parts}
 use Rattle.tpm_device.specs.Stored.{Stored, Holds, TooLarge, Malformed, BadRule}
-use Rattle.pcrlock_words.specs.declared.answer.Answer.{Answer}
+use Rattle.pcrlock_answer.specs.declared.answer.Answer.{Answer}
 use Rattle.pcrlock_line.specs.declared.reply.Reply.{Reply}
 use Rattle.pcrlock_line.specs.declared.reply.Reply.TheVariants as reply
 use Rattle.pcrlock_line.specs.declared.stop.Stop.{Stop}

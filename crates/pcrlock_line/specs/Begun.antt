@@ -4,9 +4,9 @@ use Rattle.tpm_model.specs.declared.parts.Parts.{Parts}
 use Rattle.tpm_model.specs.declared.rules.StateRule.{StateRule}
 use Rattle.tpm_model.specs.declared.rules.StateRule.TheVariants as rule
 use Rattle.tpm_device.specs.Stored.{Stored, Holds, TooLarge, Malformed, BadRule}
-use Rattle.pcrlock_words.specs.declared.answer.Answer.{Answer}
-use Rattle.pcrlock_words.specs.declared.answer.Answer.TheVariants as said
-use Rattle.pcrlock_words.specs.declared.place.Place.TheVariants as place
+use Rattle.pcrlock_answer.specs.declared.answer.Answer.{Answer}
+use Rattle.pcrlock_answer.specs.declared.answer.Answer.TheVariants as said
+use Rattle.pcrlock_answer.specs.declared.place.Place.TheVariants as place
 use Rattle.pcrlock_line.specs.Machine.{Machine, Live}
 use Rattle.pcrlock_line.specs.Outcome.{Outcome, refused_line}
 

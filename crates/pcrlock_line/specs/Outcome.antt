@@ -1,17 +1,26 @@
 -- What a command comes to.
-use Rattle.std.specs.Prelude.{◌≡◌, ℕ, List, [], ◌∷◌, Option}
+use Rattle.std.specs.Prelude.{◌≡◌, ℕ, Bool, true, false, List, [], ◌∷◌, Option}
 use Rattle.pl_base.specs.FileMap.{FileMap}
 use Rattle.hash_bank.specs.HashedString.{HashedString}
-use Rattle.pcrlock_words.specs.declared.answer.Answer.{Answer}
+use Rattle.pcrlock_answer.specs.declared.answer.Answer.{Answer}
 use Rattle.tpm_device.specs.Stored.{Stored}
+use Rattle.pcrlock_line.specs.declared.stop.Stop.{Stop}
 use Rattle.pcrlock_line.specs.declared.reply.Reply.{Reply}
 use Rattle.pcrlock_line.specs.declared.reply.Reply.TheVariants as reply
 use Rattle.pcrlock_line.specs.Machine.{Machine, Tells}
 
--- the end of a command: the text that it prints, or the answer for which it didn't do its work
+-- the end of a command: the text that it prints; the answer for which it didn't do its work; or the fault
+-- or want of memory at which it stops, and with it the script that it stands in
 pub data Ending : Type 0 where
   Fine : List ℕ → Ending
   Refused : Answer → Ending
+  Stops : Stop → Ending
+
+-- whether a command stops at this end
+abbrev pub is_stop : Ending → Bool
+is_stop (Fine text) = false
+is_stop (Refused answer) = false
+is_stop (Stops stop) = true
 
 -- the end; the machine afterwards; the strings that were hashed; and the machine after each number of
 -- the command's changes to files and TPM, from none to all

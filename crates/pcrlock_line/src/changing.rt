@@ -32,8 +32,8 @@ pub fn replace_file<F: Files>(
 /// Draws a random word of 32 bytes. After a stop the words to come are as before.
 pub fn draw<E: Entropy>(entropy: &mut E) -> Result<[u8; 32], Stop>
     ensures causes { HasCauses (0, E.faults entropy.old, 0, 0) (0, E.faults entropy.new, 0, 0) result }
-    ensures told { (words : Sequence (Sequence ℕ)) → E.words entropy.old ≡ Some words → IfOk result (λ word. IsDrawn words word (E.words entropy.new)) }
-    ensures stops { (words : Sequence (Sequence ℕ)) → E.words entropy.old ≡ Some words → IfErr result (λ _. E.words entropy.new ≡ Some words) }
+    ensures told { (words : Sequence (Sequence ℕ)) → E.draws entropy.old ≡ Some words → IfOk result (λ word. IsDrawn words word (E.draws entropy.new)) }
+    ensures stops { (words : Sequence (Sequence ℕ)) → E.draws entropy.old ≡ Some words → IfErr result (λ _. E.draws entropy.new ≡ Some words) }
     ensures kind { IfErr result (λ stop. stop ≡ Stop.EntropyFault) }
 {
     match entropy.fill32() {

@@ -8,7 +8,7 @@ ghost use Rattle.pcrlock_line.specs.Begun.{rule_name as name_of_rule, state_refu
 ghost use Rattle.pcrlock_line.specs.Causes.{HasCauses};
 
 use crate::Stop;
-use pcrlock_words::{Answer, Place};
+use pcrlock_answer::{Answer, Place};
 use pl_base::{Memory, Name};
 use std::alloc::Global;
 use tpm_device::{BeginError, ExecError, Tpm};

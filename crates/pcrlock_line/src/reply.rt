@@ -1,5 +1,5 @@
 //! What a command has to say.
-use pcrlock_words::Answer;
+use pcrlock_answer::Answer;
 
 /// The end of a command that ran to its end: the text that it prints, or the answer for which it
 /// didn't do its work.

@@ -4,7 +4,7 @@ use Rattle.std.specs.Prelude.{Option, None, Some, Result, Err}
 use Rattle.hash_bank.specs.declared.bank.Bank.{Bank}
 use Rattle.tpm_model.specs.declared.parts.Parts.{Parts}
 use Rattle.tpm_device.specs.Stored.{Stored, Holds, TooLarge, Malformed, BadRule}
-use Rattle.pcrlock_words.specs.declared.answer.Answer.{Answer}
+use Rattle.pcrlock_answer.specs.declared.answer.Answer.{Answer}
 use Rattle.pcrlock_line.specs.Begun.{state_refusal}
 use Rattle.pcrlock_line.specs.Machine.{HasStoredRules}
 use Rattle.pcrlock_predict.specs.Present.{present_of, values_at, values_or_absent}

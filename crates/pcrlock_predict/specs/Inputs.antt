@@ -2,7 +2,7 @@
 use Rattle.std.specs.Prelude.{ℕ, List, Option, Result, Ok}
 use Rattle.pl_base.specs.FileMap.{FileMap}
 use Rattle.component_tree.specs.PlainTree.{PlainComponent, plain}
-use Rattle.pcrlock_words.specs.declared.answer.Answer.{Answer}
+use Rattle.pcrlock_answer.specs.declared.answer.Answer.{Answer}
 use Rattle.pcrlock_input.specs.Answering.{◌>>=◌}
 use Rattle.pcrlock_input.specs.Components.{components_of}
 use Rattle.pcrlock_input.specs.Logs.{PlainLogs, logs_of, plain_logs}

@@ -2,7 +2,7 @@
 use Rattle.std.specs.Prelude.{ℕ, List, Option, Result, Ok}
 use Rattle.hash_bank.specs.declared.bank.Bank.{Bank}
 use Rattle.tpm_device.specs.Stored.{Stored}
-use Rattle.pcrlock_words.specs.declared.answer.Answer.{Answer}
+use Rattle.pcrlock_answer.specs.declared.answer.Answer.{Answer}
 use Rattle.pcrlock_words.specs.LogText.{log_text}
 use Rattle.pcrlock_line.specs.Machine.{Machine}
 use Rattle.pcrlock_line.specs.Outcome.{Outcome}

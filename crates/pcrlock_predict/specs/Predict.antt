@@ -8,8 +8,8 @@ use Rattle.predictor.specs.declared.protection.Protection.{Protection}
 use Rattle.predictor.specs.declared.window.Window.{Window}
 use Rattle.predictor.specs.Protected.{protected_of}
 use Rattle.tpm_device.specs.Stored.{Stored}
-use Rattle.pcrlock_words.specs.declared.answer.Answer.{Answer}
-use Rattle.pcrlock_words.specs.declared.answer.Answer.TheVariants as said
+use Rattle.pcrlock_answer.specs.declared.answer.Answer.{Answer}
+use Rattle.pcrlock_answer.specs.declared.answer.Answer.TheVariants as said
 use Rattle.pcrlock_words.specs.PredictText.{predict_text}
 use Rattle.pcrlock_line.specs.Machine.{Machine}
 use Rattle.pcrlock_line.specs.Outcome.{Outcome}

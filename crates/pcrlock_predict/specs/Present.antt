@@ -11,9 +11,9 @@ use Rattle.tpm_model.specs.declared.response.Response.TheVariants as answer
 use Rattle.tpm_model.specs.declared.response.Refusal.TheVariants as refusal
 use Rattle.tpm_model.specs.Pcrs.{pcr_of}
 use Rattle.tpm_device.specs.Stored.{Stored, Holds, TooLarge, Malformed, BadRule}
-use Rattle.pcrlock_words.specs.declared.answer.Answer.{Answer}
-use Rattle.pcrlock_words.specs.declared.answer.Answer.TheVariants as said
-use Rattle.pcrlock_words.specs.declared.place.Place.TheVariants as place
+use Rattle.pcrlock_answer.specs.declared.answer.Answer.{Answer}
+use Rattle.pcrlock_answer.specs.declared.answer.Answer.TheVariants as said
+use Rattle.pcrlock_answer.specs.declared.place.Place.TheVariants as place
 use Rattle.pcrlock_line.specs.declared.stop.Stop.{Stop}
 use Rattle.pcrlock_line.specs.declared.stop.Stop.TheVariants as stop
 use Rattle.pcrlock_line.specs.Begun.{rule_name}

@@ -63,8 +63,9 @@ fn variant_at(tree: &Tree, component: u32, variant: u32) -> &str
     }
 }
 
-/// The answer for a record of the components that has no digest of the bank.
-fn no_digest(
+/// The answer for a record of the components that has no digest of the bank: it names the id of its component, the
+/// name of its variant, and its place there.
+pub fn no_digest(
     alloc: Global,
     tree: &Tree,
     component: u32,

@@ -4,8 +4,8 @@ use Rattle.pl_base.specs.FileMap.{FileMap}
 use Rattle.cel_record.specs.Spelled.{Spelled}
 use Rattle.cel_record.specs.Written.{component_text}
 use Rattle.pcr_replay.specs.Row.{Row}
-use Rattle.pcrlock_words.specs.declared.answer.Answer.{Answer}
-use Rattle.pcrlock_words.specs.Texts.{line_end}
+use Rattle.pcrlock_answer.specs.declared.answer.Answer.{Answer}
+use Rattle.pcrlock_answer.specs.Texts.{line_end}
 use Rattle.pcrlock_line.specs.Machine.{Machine}
 use Rattle.pcrlock_line.specs.Outcome.{Outcome}
 use Rattle.pcrlock_input.specs.Answering.{◌>>=◌}

@@ -1,8 +1,8 @@
 -- What `list-components` prints.
 use Rattle.std.specs.Prelude.{ℕ, List, Result, Ok}
 use Rattle.pl_base.specs.FileMap.{FileMap}
-use Rattle.pcrlock_words.specs.declared.answer.Answer.{Answer}
-use Rattle.pcrlock_words.specs.Texts.{components_text}
+use Rattle.pcrlock_answer.specs.declared.answer.Answer.{Answer}
+use Rattle.pcrlock_words.specs.ComponentText.{components_text}
 use Rattle.pcrlock_line.specs.Machine.{Machine}
 use Rattle.pcrlock_line.specs.Outcome.{Outcome}
 use Rattle.pcrlock_input.specs.Answering.{◌>>=◌}

@@ -7,6 +7,3 @@ mod printing;
 
 pub use crate::listing::list_components;
 pub use crate::printing::cel;
-
-#[cfg(test)]
-mod tests;
