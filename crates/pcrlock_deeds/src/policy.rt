@@ -1,0 +1,106 @@
+//! The policy in force, as its file says it.
+ghost use Rattle.std.specs.Prelude.{◌≡◌, codes, Some, IfOk, IfErr, IfSome};
+ghost use Rattle.pl_base.specs.FileMap.{FileMap};
+ghost use Rattle.policy_file.specs.PolicyReading.{policy_in};
+ghost use Rattle.policy_file.specs.PolicyText.{IsPolicy};
+ghost use Rattle.pcrlock_line.specs.Causes.{HasCauses};
+ghost use Rattle.pcrlock_line.specs.Content.{content_found};
+ghost use Rattle.pcrlock_deeds.specs.PolicyAt.{policy_read, policy_by, policy_of};
+
+use pcrlock_answer::{Answer, Place};
+use pcrlock_line::{Found, Stop, read_file};
+use pl_base::{Files, Name};
+use policy_file::{FileError, Policy, read_policy};
+use std::alloc::Global;
+
+/// The most bytes that a policy file may have.
+const POLICY_LIMIT: u64 = 4_194_304;
+
+/// The answer for a policy file that is malformed from the place on.
+fn malformed(alloc: Global, path: &Name, place: u32) -> Result<Answer, Stop>
+    ensures told { IfOk result (λ answer. answer ≡ Answer.Malformed path.now (Place.At place)) }
+    ensures cause { IfErr result (λ stop. stop ≡ Stop.Memory) }
+{
+    match path.copy(alloc) {
+        Ok(path) => Ok(Answer::Malformed {
+            path,
+            place: Place::At(u64::from(place)),
+        }),
+        Err(_) => Err(Stop::Memory),
+    }
+}
+
+/// The answer for a policy file of this many bytes.
+fn too_large(alloc: Global, size: u64) -> Result<Answer, Stop>
+    ensures told { IfOk result (λ answer. answer ≡ Answer.Limit (codes "policy-bytes") size) }
+    ensures cause { IfErr result (λ stop. stop ≡ Stop.Memory) }
+{
+    match Name::from_text(alloc, "policy-bytes") {
+        Ok(kind) => Ok(Answer::Limit { kind, number: size }),
+        Err(_) => Err(Stop::Memory),
+    }
+}
+
+/// The policy that the bytes spell.
+fn policy_spelled(
+    alloc: Global,
+    path: &Name,
+    bytes: &[u8],
+) -> Result<Result<Option<Policy>, Answer>, Stop>
+    ensures told { IfOk result (λ found. found ≡ policy_read path.now (policy_in bytes.now)) }
+    ensures valid { IfOk result (λ found. IfOk found (λ policy. IfSome policy IsPolicy)) }
+    ensures cause { IfErr result (λ stop. stop ≡ Stop.Memory) }
+{
+    match read_policy(alloc, bytes) {
+        Ok(policy) => Ok(Ok(Some(policy))),
+        Err(FileError::Malformed { place, .. }) => match malformed(alloc, path, place) {
+            Ok(answer) => Ok(Err(answer)),
+            Err(_) => Err(Stop::Memory),
+        },
+        Err(FileError::Memory) => Err(Stop::Memory),
+    }
+}
+
+/// The policy of what stands at the path.
+fn policy_found(
+    alloc: Global,
+    path: &Name,
+    found: &Found,
+) -> Result<Result<Option<Policy>, Answer>, Stop>
+    ensures told { IfOk result (λ policy. policy ≡ policy_by path.now (content_found found.now)) }
+    ensures valid { IfOk result (λ policy. IfOk policy (λ policy. IfSome policy IsPolicy)) }
+    ensures cause { IfErr result (λ stop. stop ≡ Stop.Memory) }
+{
+    match found {
+        Found::Missing => Ok(Ok(None)),
+        Found::TooLarge(size) => match too_large(alloc, *size) {
+            Ok(answer) => Ok(Err(answer)),
+            Err(_) => Err(Stop::Memory),
+        },
+        Found::Bytes(bytes) => policy_spelled(alloc, path, bytes),
+    }
+}
+
+/// The policy that the file at the path spells; None where no file stands there. Or the answer:
+///
+/// | Answer | Cause |
+/// |---|---|
+/// | `Limit`, `policy-bytes` | the file has this many bytes, more than 4,194,304 |
+/// | `Malformed` | from this place on the file spells no policy |
+///
+/// The files stay as they are.
+pub fn policy_at<F: Files>(
+    alloc: Global,
+    files: &mut F,
+    path: &Name,
+) -> Result<Result<Option<Policy>, Answer>, Stop>
+    ensures causes { HasCauses (F.faults files.old, 0, 0, 0) (F.faults files.new, 0, 0, 0) result }
+    ensures told { (held : FileMap) → F.held files.old ≡ Some held → IfOk result (λ found. found ≡ policy_of held path.now) }
+    ensures valid { IfOk result (λ found. IfOk found (λ policy. IfSome policy IsPolicy)) }
+    ensures same { F.held files.new ≡ F.held files.old }
+{
+    match read_file(alloc, files, path.text(), POLICY_LIMIT) {
+        Ok(found) => policy_found(alloc, path, &found),
+        Err(stop) => Err(stop),
+    }
+}
