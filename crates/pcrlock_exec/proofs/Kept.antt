@@ -11,7 +11,7 @@ use Rattle.tpm_model.specs.World.{World, hashed_world}
 use Rattle.tpm_worlds.specs.CommandLists.{state_after}
 use Rattle.tpm_worlds.proofs.Steady.{hashed_stays}
 use Rattle.tpm_device.specs.Stored.{Stored, Holds, TooLarge, Malformed, BadRule}
-use Rattle.pcrlock_words.specs.declared.answer.Answer.{Answer}
+use Rattle.pcrlock_answer.specs.declared.answer.Answer.{Answer}
 use Rattle.pcrlock_line.specs.Begun.{by_device}
 use Rattle.pcrlock_line.specs.Machine.{Machine, Live}
 use Rattle.pcrlock_line.specs.Stopped.{StandsAt, StandsAmong}

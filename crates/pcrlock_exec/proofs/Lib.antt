@@ -3,3 +3,4 @@ pub mod Lists
 pub mod Steps
 pub mod Stands
 pub mod Kept
+pub mod Acts

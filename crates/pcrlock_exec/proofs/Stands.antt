@@ -7,7 +7,7 @@ use Rattle.tpm_model.specs.declared.parts.Parts.{Parts}
 use Rattle.tpm_model.specs.Respond.{respond}
 use Rattle.tpm_worlds.specs.CommandLists.{state_after}
 use Rattle.tpm_device.specs.Stored.{Stored, Holds}
-use Rattle.pcrlock_words.specs.declared.answer.Answer.{Answer}
+use Rattle.pcrlock_answer.specs.declared.answer.Answer.{Answer}
 use Rattle.pcrlock_line.specs.declared.stop.Stop.{Stop}
 use Rattle.pcrlock_line.specs.Begun.{by_device}
 use Rattle.pcrlock_line.specs.Causes.{HasCauses}

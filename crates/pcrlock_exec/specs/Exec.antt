@@ -10,7 +10,7 @@ use Rattle.tpm_model.specs.World.{World}
 use Rattle.tpm_worlds.specs.CommandLists.{responses_to, state_after}
 use Rattle.tpm_worlds.specs.EventLists.{world_after_all}
 use Rattle.tpm_commands.specs.Responses.{response_text}
-use Rattle.pcrlock_words.specs.declared.answer.Answer.{Answer}
+use Rattle.pcrlock_answer.specs.declared.answer.Answer.{Answer}
 use Rattle.pcrlock_line.specs.Begun.{by_device}
 use Rattle.pcrlock_line.specs.Machine.{Machine, Live, machine}
 use Rattle.pcrlock_line.specs.Outcome.{Outcome, Fine, refused_line}

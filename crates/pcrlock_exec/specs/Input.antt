@@ -5,9 +5,9 @@ use Rattle.tpm_model.specs.declared.command.Command.{Command}
 use Rattle.tpm_commands.specs.declared.error.CommandsError.{CommandsError}
 use Rattle.tpm_commands.specs.declared.error.CommandsError.TheVariants as errors
 use Rattle.tpm_commands.specs.File.{commands_of}
-use Rattle.pcrlock_words.specs.declared.answer.Answer.{Answer}
-use Rattle.pcrlock_words.specs.declared.answer.Answer.TheVariants as said
-use Rattle.pcrlock_words.specs.declared.place.Place.TheVariants as place
+use Rattle.pcrlock_answer.specs.declared.answer.Answer.{Answer}
+use Rattle.pcrlock_answer.specs.declared.answer.Answer.TheVariants as said
+use Rattle.pcrlock_answer.specs.declared.place.Place.TheVariants as place
 use Rattle.pcrlock_line.specs.Content as content
 use Rattle.pcrlock_line.specs.Content.{Content, content_of}
 use Rattle.pcrlock_exec.specs.declared.input.Input.{Input}

@@ -1,4 +1,5 @@
 pub mod Input
 pub mod Exec
+pub mod Acts
 pub mod Sending
 pub mod Worlds

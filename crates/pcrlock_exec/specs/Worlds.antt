@@ -2,7 +2,7 @@
 use Rattle.std.specs.Prelude.{ℕ, List, Result, Ok, Err}
 use Rattle.tpm_model.specs.declared.command.Command.{Command}
 use Rattle.tpm_model.specs.World.{World}
-use Rattle.pcrlock_words.specs.declared.answer.Answer.{Answer}
+use Rattle.pcrlock_answer.specs.declared.answer.Answer.{Answer}
 use Rattle.pcrlock_line.specs.Machine.{Machine, Live}
 use Rattle.pcrlock_line.specs.Worlds.{by_state}
 use Rattle.pcrlock_exec.specs.Exec.{exec_world}

@@ -2,13 +2,13 @@
 ghost use Rattle.std.specs.Prelude.{◌≡◌, Some, IfOk, Err};
 ghost use Rattle.pl_base.specs.FileMap.{FileMap};
 ghost use Rattle.tpm_commands.specs.File.{commands_of};
-ghost use Rattle.pcrlock_words.specs.declared.answer.Answer.TheVariants.{NoSuchFile, Limit, Malformed};
-ghost use Rattle.pcrlock_words.specs.declared.place.Place.TheVariants.{At};
+ghost use Rattle.pcrlock_answer.specs.declared.answer.Answer.TheVariants.{NoSuchFile, Limit, Malformed};
+ghost use Rattle.pcrlock_answer.specs.declared.place.Place.TheVariants.{At};
 ghost use Rattle.pcrlock_line.specs.Causes.{HasCauses};
 ghost use Rattle.pcrlock_exec.specs.Input.{commands_at, input_found, read_from};
 
+use pcrlock_answer::{Answer, Place};
 use pcrlock_line::{Found, Stop, read_file};
-use pcrlock_words::{Answer, Place};
 use pl_base::{Files, List, Memory, Name};
 use std::alloc::Global;
 use tpm_commands::{CommandsError, read_commands};

@@ -1,26 +1,19 @@
 -- A restart and extends by records, one after the other.
-use Rattle.std.proofs.Common.{◌≡◌, ◌≢◌, ◌⊎◌, ℕ, ◌+◌, ◌<◌, ◌≤◌, zero, suc, Bool, true, false, cond, List, [], ◌∷◌, length, map, take, get_or, fold, inl, inr, refl, sym, ap, ◌∙◌, subst, arith, add-zero}
-use Rattle.std.specs.Prelude.{Option, None, Some, Result, Ok, Err, IfSome, IfOk, IfErr, nat_lt, ◌==◌, unwrap_or}
+use Rattle.std.proofs.Common.{◌≡◌, ◌≢◌, ◌⊎◌, ℕ, ◌+◌, ◌<◌, ◌≤◌, zero, suc, Bool, true, false, List, [], ◌∷◌, length, map, take, get_or, inl, inr, refl, sym, ap, ◌∙◌, subst, arith, add-zero}
+use Rattle.std.specs.Prelude.{Option, Some, Result, Ok, Err, IfSome, IfErr, ◌==◌, unwrap_or}
 use Rattle.std.proofs.lemmas.Bool.{le-ltb, ne_eqb}
 use Rattle.std.proofs.lemmas.List.{length-map, length-take}
 use Rattle.std.proofs.lemmas.List.Sums.{fold_more}
 use Rattle.std.proofs.Math.ListN.{get_or-map}
 use Rattle.pl_base.specs.FileMap.{FileMap}
 use Rattle.hash_bank.specs.declared.banks.Banks.{Banks}
-use Rattle.hash_bank.specs.declared.digests.Digests.{Digests}
-use Rattle.cel_record.specs.Listed.{listed}
 use Rattle.pcr_replay.specs.declared.record.LogRecord.{LogRecord}
 use Rattle.pcr_replay.specs.Row.{Row, row, rows}
 use Rattle.tpm_model.specs.declared.parts.Parts.{Parts}
 use Rattle.tpm_model.specs.PcrCommands.{is_start_locality, restart, pcr_extend}
-use Rattle.tpm_model.specs.Pcrs.{after_extend, bank_count}
-use Rattle.tpm_model.specs.Refusing.{refused}
+use Rattle.tpm_model.specs.Pcrs.{bank_count}
 use Rattle.tpm_model.specs.Rules.{HasRules}
-use Rattle.tpm_model.specs.declared.response.Response.{Response}
 use Rattle.tpm_model.specs.declared.response.Response.TheVariants as answer
-use Rattle.tpm_model.specs.declared.response.Refusal.TheVariants as refusal
-use Rattle.tpm_model.specs.declared.response.Counter.TheVariants as counter
-use Rattle.tpm_model.proofs.KeepsRules.{keeps-restart, keeps-pcr_extend}
 use Rattle.tpm_device.specs.Stored.{Stored, Holds}
 use Rattle.pcrlock_line.specs.declared.stop.Stop.{Stop}
 use Rattle.pcrlock_line.specs.Causes.{HasCauses}
@@ -29,12 +22,12 @@ use Rattle.pl_base.specs.Faults.{HasCause}
 use Rattle.tpm_model.specs.ObjectRules.{keeps_object_order}
 use Rattle.tpm_model.specs.Tied.{Tied}
 use Rattle.tpm_model.specs.World.{World}
-use Rattle.pcrlock_line.specs.Machine.{Live, machine}
+use Rattle.pcrlock_line.specs.Machine.{Live}
 use Rattle.pcrlock_line.specs.Stopped.{StandsAt, StandsAmong}
 use Rattle.pcrlock_line.proofs.Standing.{holds_same}
 use Rattle.tpm_model.proofs.Ties.{follows}
 use Rattle.pcrlock_input.specs.Logs.{PlainLogs, locality_in, rows_of}
-use Rattle.pcrlock_tpm.specs.Boot.{restarted, measured_row, measured, measured_states, booted, booted_line, boot_locality, boot_state, boot_world, at_state, IsPartWay}
+use Rattle.pcrlock_tpm.specs.Boot.{restarted, measured_row, measured, measured_states, booted_line, boot_locality, boot_state, boot_world, at_state, IsPartWay}
 use Rattle.pcrlock_line.specs.Running.{Runs, Keeps}
 
 -- ---- one command

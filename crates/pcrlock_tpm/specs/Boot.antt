@@ -1,5 +1,5 @@
 -- What `tpm-boot` does.
-use Rattle.std.specs.Prelude.{◌≡◌, ◌⊎◌, ℕ, ◌+◌, ◌≤◌, List, [], ◌∷◌, length, map, take, fold, unwrap_or, Option, Result, Ok, Err}
+use Rattle.std.specs.Prelude.{ℕ, ◌+◌, ◌≤◌, List, [], ◌∷◌, length, map, take, fold, unwrap_or, Option, Result, Ok, Err}
 use Rattle.hash_bank.specs.declared.banks.Banks.{Banks}
 use Rattle.pcr_replay.specs.Row.{Row}
 use Rattle.tpm_model.specs.declared.parts.Parts.{Parts}
@@ -7,8 +7,8 @@ use Rattle.tpm_model.specs.Pcrs.{after_digests}
 use Rattle.tpm_model.specs.StartValues.{start_values}
 use Rattle.tpm_model.specs.World.{World, extended_world}
 use Rattle.tpm_device.specs.Stored.{Stored}
-use Rattle.pcrlock_words.specs.declared.answer.Answer.{Answer}
-use Rattle.pcrlock_words.specs.Texts.{records_text}
+use Rattle.pcrlock_answer.specs.declared.answer.Answer.{Answer}
+use Rattle.pcrlock_answer.specs.Texts.{records_text}
 use Rattle.pcrlock_line.specs.Begun.{by_device}
 use Rattle.pcrlock_line.specs.Machine.{Machine, Live, machine}
 use Rattle.pcrlock_line.specs.Outcome.{Outcome, Fine, refused_line}

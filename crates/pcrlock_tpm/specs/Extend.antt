@@ -1,5 +1,5 @@
 -- What `tpm-extend` does.
-use Rattle.std.specs.Prelude.{ℕ, ◌+◌, ◌==◌, Bool, true, false, if◌then◌else◌, List, [], ◌∷◌, Option, None, Some}
+use Rattle.std.specs.Prelude.{ℕ, ◌+◌, ◌==◌, Bool, true, false, if◌then◌else◌, List, [], ◌∷◌, Some}
 use Rattle.hash_bank.specs.declared.bank.Bank.TheVariants.{Sha1, Sha256, Sha384, Sha512}
 use Rattle.hash_bank.specs.Hash.{digest_in}
 use Rattle.tpm_model.specs.declared.response.Response.{Response}
@@ -7,7 +7,7 @@ use Rattle.tpm_model.specs.declared.response.Response.TheVariants as answer
 use Rattle.tpm_model.specs.declared.parts.Parts.{Parts}
 use Rattle.tpm_model.specs.Pcrs.{after_digests}
 use Rattle.tpm_model.specs.World.{World, extended_world}
-use Rattle.pcrlock_words.specs.declared.answer.Answer.TheVariants as said
+use Rattle.pcrlock_answer.specs.declared.answer.Answer.TheVariants as said
 use Rattle.pcrlock_line.specs.Machine.{Machine, Live, machine}
 use Rattle.pcrlock_line.specs.Outcome.{Outcome, Fine, refused_line}
 use Rattle.pcrlock_line.specs.Begun.{by_device}

@@ -1,2 +1,3 @@
 pub mod Extend
 pub mod Boot
+pub mod Acts

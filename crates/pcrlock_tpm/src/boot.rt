@@ -19,9 +19,9 @@ ghost use Rattle.pcrlock_line.specs.Running.{Runs, Keeps};
 
 use hash_bank::Banks;
 use pcr_replay::LogRecord;
+use pcrlock_answer::{Answer, records_line};
 use pcrlock_input::{InputError, Logs, read_logs};
 use pcrlock_line::{Reply, Stop, ask, ready};
-use pcrlock_words::{Answer, records_line};
 use pl_base::{Files, Name};
 use std::alloc::Global;
 use tpm_device::Tpm;

@@ -12,8 +12,8 @@ ghost use Rattle.pcrlock_line.specs.Causes.{HasCauses};
 ghost use Rattle.pcrlock_tpm.specs.Extend.{tpm_extend_line, extended_line, state_after, extend_world, is_extended as extends};
 
 use hash_bank::hash_all;
+use pcrlock_answer::Answer;
 use pcrlock_line::{Reply, Stop, ask, ready};
-use pcrlock_words::Answer;
 use pl_base::Name;
 use std::alloc::Global;
 use tpm_device::Tpm;

@@ -1,7 +1,7 @@
 use Rattle.std.proofs.Common.{List, ap, subst, sym, ◌∙◌}
 use Rattle.std.specs.Prelude.{Result, Ok, IfErr}
 use Rattle.tpm_model.specs.declared.command.Command.{Command}
-use Rattle.pcrlock_words.specs.declared.answer.Answer.{Answer}
+use Rattle.pcrlock_answer.specs.declared.answer.Answer.{Answer}
 use Rattle.pcrlock_line.specs.Stopped.{StandsAmong}
 use Rattle.pcrlock_line.proofs.Devices.{stands}
 use Rattle.pcrlock_exec.specs.Exec.{exec_outcome}

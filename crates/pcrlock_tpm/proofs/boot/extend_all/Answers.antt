@@ -1,4 +1,4 @@
-use Rattle.std.proofs.Common.{◌≡◌, ◌≢◌, ℕ, ◌≤◌, length, take, subst, arith}
+use Rattle.std.proofs.Common.{◌≤◌, length, take, subst, arith}
 use Rattle.std.proofs.lemmas.List.{length-map}
 use Rattle.pcr_replay.specs.Row.{rows}
 use Rattle.pcrlock_tpm.specs.Boot.{measured}
