@@ -24,7 +24,7 @@ use Rattle.policy_digest.specs.Table.{valid_table}
 use Rattle.policy_digest.specs.TableStrings.{table_strings}
 use Rattle.policy_file.specs.declared.policy.Policy.{Policy}
 use Rattle.policy_file.specs.PolicyText.{IsPolicy}
-use Rattle.pcrlock_words.specs.declared.answer.Answer.{Answer}
+use Rattle.pcrlock_answer.specs.declared.answer.Answer.{Answer}
 use Rattle.policy_walk.specs.declared.prepared.PrepareError.{PrepareError}
 use Rattle.policy_walk.specs.declared.prepared.PrepareError.TheVariants as why
 use Rattle.policy_walk.specs.Choosing.{chosen_of, content_of, Answers, if_in_force, is_in_force, newest_root, prepared_by, prepared_of}
@@ -38,8 +38,8 @@ use Rattle.policy_session.specs.declared.index.IndexError.{IndexError}
 use Rattle.policy_session.specs.BoundUnseal.{AreAmong, IsPrepared, bound_strings, opened_behind, opened_bound}
 use Rattle.policy_session.specs.IndexReads.{read_found, read_written}
 use Rattle.policy_session.specs.LiteralUnseal.{opened_by}
-use Rattle.pcrlock_words.specs.declared.answer.Answer.TheVariants as said
-use Rattle.pcrlock_words.specs.Texts.{key_text}
+use Rattle.pcrlock_answer.specs.declared.answer.Answer.TheVariants as said
+use Rattle.pcrlock_answer.specs.Texts.{key_text}
 use Rattle.pcrlock_line.specs.Outcome.{Fine, Refused}
 use Rattle.pcrlock_open.specs.Unseal.{object_ending}
 use Rattle.pcrlock_open.specs.Bound.{bound_by, chosen_strings, held_by, plain_tables, walk_ending}

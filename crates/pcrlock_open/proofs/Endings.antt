@@ -10,8 +10,8 @@ use Rattle.tpm_model.specs.Binding.{literal_policy}
 use Rattle.tpm_model.specs.Sessions.{object_at}
 use Rattle.policy_session.specs.declared.error.UnsealError.TheVariants as error
 use Rattle.policy_session.specs.LiteralUnseal.{opened, opened_at, opened_by}
-use Rattle.pcrlock_words.specs.declared.answer.Answer.TheVariants as said
-use Rattle.pcrlock_words.specs.Texts.{key_text}
+use Rattle.pcrlock_answer.specs.declared.answer.Answer.TheVariants as said
+use Rattle.pcrlock_answer.specs.Texts.{key_text}
 use Rattle.pcrlock_line.specs.Outcome.{Fine, Refused}
 use Rattle.pcrlock_open.specs.Unseal.{object_ending, value_ending, present_value, literal_ending, value_strings}
 use Rattle.pcrlock_open.specs.Endings.{result_ending}

@@ -7,7 +7,7 @@ use Rattle.policy_file.specs.declared.token.Literal.{Literal}
 use Rattle.tpm_device.specs.Stored.{Stored}
 use Rattle.pcrlock_line.specs.declared.reply.Reply.{Reply}
 use Rattle.pcrlock_line.specs.declared.stop.Stop.{Stop}
-use Rattle.pcrlock_words.specs.declared.answer.Answer.{Answer}
+use Rattle.pcrlock_answer.specs.declared.answer.Answer.{Answer}
 use Rattle.pcrlock_line.specs.declared.reply.Reply.TheVariants as reply
 use Rattle.pcrlock_line.specs.Machine.{Machine, Live, Tells, machine}
 use Rattle.pcrlock_line.specs.Outcome.{Outcome, Gives, refused_line}

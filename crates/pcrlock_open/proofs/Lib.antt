@@ -6,3 +6,4 @@ pub mod SameValues
 pub mod Stops
 pub mod Ties
 pub mod BoundGives
+pub mod Acts

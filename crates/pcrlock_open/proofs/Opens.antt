@@ -14,8 +14,8 @@ use Rattle.tpm_model.specs.declared.parts.Parts.{Parts}
 use Rattle.tpm_model.specs.Binding.{literal_policy}
 use Rattle.tpm_model.specs.Sessions.{object_at}
 use Rattle.tpm_model.specs.World.{World}
-use Rattle.pcrlock_words.specs.Texts.{key_text}
-use Rattle.pcrlock_words.specs.declared.answer.Answer.TheVariants as said
+use Rattle.pcrlock_answer.specs.Texts.{key_text}
+use Rattle.pcrlock_answer.specs.declared.answer.Answer.TheVariants as said
 use Rattle.pcrlock_line.specs.Machine.{Live, machine}
 use Rattle.pl_base.specs.FileMap.{FileMap}
 use Rattle.tpm_device.specs.Stored.{Stored}
@@ -74,7 +74,7 @@ ending_is : (m : Live) (w : World) (state path : List ℕ) (handle : ℕ) (liter
     → (unseal_line state path (machine m)).ending ≡ value_ending (present_value literal m.state) literal handle m.state
 ending_is m w state path handle literal key good h =
     ap (λ c. (content_line state path c (machine m)).ending) h.written
-    ∙ ap (λ r. (token_line state path r (machine m)).ending) (token_again (token.Literal handle literal) h.valid tt)
+    ∙ ap (λ r. (token_line state path r (machine m)).ending) (token_again (token.Literal handle literal) h.valid)
     ∙ literal_is literal handle m.state h.slot h.number
 
 -- the line prints the key exactly where the PCR holds the literal's value

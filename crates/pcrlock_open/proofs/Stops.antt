@@ -92,7 +92,7 @@ unseal_first held stored m state path at = unseal_at held stored m state path (c
 number_used : (s : Parts) (none : Bool) → Differs s (cond none s (record s { next_session = s.next_session + 1 }))
 number_used s none = differs (next_number s none)
 
-last_stop : (held : Option FileMap) (stored : Option Stored) (m : Live) (literal : Literal) (handle : ℕ) → StandsAt held stored (unsealed_line literal handle m).after → StandsAmong held stored (unsealed_line literal handle m).stops
+pub last_stop : (held : Option FileMap) (stored : Option Stored) (m : Live) (literal : Literal) (handle : ℕ) → StandsAt held stored (unsealed_line literal handle m).after → StandsAmong held stored (unsealed_line literal handle m).stops
 last_stop held stored m literal handle at = inl (record {
   files = at.files;
   device = at.device;

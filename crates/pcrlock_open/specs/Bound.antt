@@ -22,9 +22,10 @@ use Rattle.policy_session.specs.declared.index.IndexError.TheVariants as index
 use Rattle.policy_session.specs.BoundUnseal.{bound_strings, foreseen_end, present_values, shown}
 use Rattle.policy_session.specs.IndexReads.{index_read}
 use Rattle.policy_session.specs.LiteralUnseal.{after_unseal}
-use Rattle.pcrlock_words.specs.declared.answer.Answer.TheVariants as said
+use Rattle.pcrlock_answer.specs.declared.answer.Answer.TheVariants as said
 use Rattle.pcrlock_line.specs.Machine.{Machine, Live, machine}
-use Rattle.pcrlock_line.specs.Outcome.{Ending, Refused, Outcome}
+use Rattle.pcrlock_line.specs.declared.stop.Stop.TheVariants as stop
+use Rattle.pcrlock_line.specs.Outcome.{Ending, Refused, Stops, Outcome}
 use Rattle.pcrlock_line.specs.Begun.{by_device}
 use Rattle.pcrlock_open.specs.Unseal.{object_ending}
 
@@ -55,7 +56,7 @@ abbrev pub held_ending : Policy → ℕ → Parts → Result (NvPublic × List �
 held_ending policy handle s (Ok held) = table_ending (plain_tables policy) held.0 held.1 handle s (chosen_of held.1 (plain_tables policy))
 held_ending policy handle s (Err index.NoIndex) = Refused (said.NoIndex policy.handle)
 held_ending policy handle s (Err index.Unwritten) = Refused (said.UnwrittenIndex policy.handle)
-held_ending policy handle s (Err other) = Refused said.TpmFault
+held_ending policy handle s (Err other) = Stops stop.TpmFault
 
 -- the number of a session is used where a table was chosen
 abbrev pub table_after : Parts → Option PlainTable → Parts

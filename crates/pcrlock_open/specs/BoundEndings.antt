@@ -15,11 +15,12 @@ use Rattle.tpm_model.specs.declared.parts.Parts.{Parts}
 use Rattle.tpm_model.specs.Rules.{HasRules}
 use Rattle.policy_session.specs.declared.error.UnsealError.{UnsealError}
 use Rattle.policy_session.specs.declared.error.UnsealError.TheVariants as error
-use Rattle.pcrlock_words.specs.declared.answer.Answer.{Answer}
-use Rattle.pcrlock_words.specs.declared.answer.Answer.TheVariants as said
-use Rattle.pcrlock_words.specs.Texts.{key_text}
+use Rattle.pcrlock_answer.specs.declared.answer.Answer.{Answer}
+use Rattle.pcrlock_answer.specs.declared.answer.Answer.TheVariants as said
+use Rattle.pcrlock_answer.specs.Texts.{key_text}
 use Rattle.pcrlock_line.specs.declared.reply.Reply.{Reply}
-use Rattle.pcrlock_line.specs.Outcome.{Ending, Fine, Refused, ending_of}
+use Rattle.pcrlock_line.specs.declared.stop.Stop.TheVariants as stop
+use Rattle.pcrlock_line.specs.Outcome.{Ending, Fine, Refused, Stops, ending_of}
 use Rattle.pcrlock_open.specs.Bound.{plain_tables}
 
 -- by which of the policy's tables a walk is
@@ -31,22 +32,23 @@ pub record IsBy (policy : Policy) (content : List ℕ) (ready : Ready) : Type 0 
   pub index : ready.index ≡ policy.handle
   pub content_is : content ≡ content_of (root_of (plain_table table))
 
--- the answer for a refusal. One that shows a literal's value comes for keys that are sealed to one value alone
-abbrev pub bound_answer : UnsealError → Answer
-bound_answer error.SessionsFull = said.SessionsFull
-bound_answer error.HandlesEnd = said.Limit (codes "handles") 0x01000000
-bound_answer (error.BankAbsent bank) = said.BankAbsent bank
-bound_answer (error.NotForeseen pcrs now) = said.NotForeseen pcrs now
-bound_answer (error.NotLiteral now) = said.TpmFault
-bound_answer (error.NoObject object) = said.NoObject object
-bound_answer (error.WrongBinding session object) = said.WrongBinding session object
-bound_answer error.Failed = said.TpmFault
-bound_answer error.Memory = said.Memory
+-- the end by why nothing was opened. A refusal that shows a literal's value comes for keys that are sealed to
+-- one value alone
+abbrev pub bound_error_ending : UnsealError → Ending
+bound_error_ending error.SessionsFull = Refused said.SessionsFull
+bound_error_ending error.HandlesEnd = Refused (said.Limit (codes "handles") 0x01000000)
+bound_error_ending (error.BankAbsent bank) = Refused (said.BankAbsent bank)
+bound_error_ending (error.NotForeseen pcrs now) = Refused (said.NotForeseen pcrs now)
+bound_error_ending (error.NotLiteral now) = Stops stop.TpmFault
+bound_error_ending (error.NoObject object) = Refused (said.NoObject object)
+bound_error_ending (error.WrongBinding session object) = Refused (said.WrongBinding session object)
+bound_error_ending error.Failed = Stops stop.TpmFault
+bound_error_ending error.Memory = Stops stop.Memory
 
 -- the end of the command
 abbrev pub bound_ending : Result (List ℕ) UnsealError → Ending
 bound_ending (Ok secret) = Fine (key_text secret)
-bound_ending (Err why) = Refused (bound_answer why)
+bound_ending (Err why) = bound_error_ending why
 
 -- the reply is this end, and this state is stored, and has its rules
 pub record IsEnded (ending : Ending) (after : Parts) (reply : Reply) (kept : Option Stored) : Type 0 where

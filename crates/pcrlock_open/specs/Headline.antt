@@ -8,7 +8,7 @@ use Rattle.policy_file.specs.TokenText.{IsToken, token_text}
 use Rattle.tpm_model.specs.Binding as binding
 use Rattle.tpm_model.specs.World.{World}
 use Rattle.tpm_model.specs.Tied.{Tied}
-use Rattle.pcrlock_words.specs.Texts.{key_text}
+use Rattle.pcrlock_answer.specs.Texts.{key_text}
 use Rattle.pcrlock_line.specs.Machine.{Live, machine}
 use Rattle.pcrlock_line.specs.Content.{content_of, Bytes}
 use Rattle.pcrlock_line.specs.Outcome.{Ending, Fine}

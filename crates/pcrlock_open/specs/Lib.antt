@@ -1,3 +1,4 @@
+pub mod Acts
 pub mod Bound
 pub mod BoundEndings
 pub mod Endings

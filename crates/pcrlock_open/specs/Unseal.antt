@@ -16,12 +16,13 @@ use Rattle.tpm_model.specs.Binding.{literal_policy}
 use Rattle.tpm_model.specs.Pcrs.{pcr_of}
 use Rattle.tpm_model.specs.Sessions.{object_at}
 use Rattle.policy_session.specs.LiteralUnseal.{after_unseal}
-use Rattle.pcrlock_words.specs.declared.answer.Answer.TheVariants as said
-use Rattle.pcrlock_words.specs.declared.place.Place.TheVariants as place
-use Rattle.pcrlock_words.specs.Texts.{key_text}
+use Rattle.pcrlock_answer.specs.declared.answer.Answer.TheVariants as said
+use Rattle.pcrlock_answer.specs.declared.place.Place.TheVariants as place
+use Rattle.pcrlock_answer.specs.Texts.{key_text}
 use Rattle.pcrlock_line.specs.Content.{Content, Missing, TooLarge, Bytes, content_of}
 use Rattle.pcrlock_line.specs.Machine.{Machine, Live, machine}
-use Rattle.pcrlock_line.specs.Outcome.{Ending, Fine, Refused, Outcome, refused_line}
+use Rattle.pcrlock_line.specs.declared.stop.Stop.TheVariants as stop
+use Rattle.pcrlock_line.specs.Outcome.{Ending, Fine, Refused, Stops, Outcome, unchanged, refused_line}
 use Rattle.pcrlock_line.specs.Begun.{by_device}
 
 -- the key, where the object that was found is bound to this policy (TPM 2.0 Library Part 3,
@@ -72,13 +73,13 @@ unsealed_line literal handle m = record {
 abbrev pub literal_line : List ℕ → Literal → ℕ → Machine → Outcome
 literal_line state literal handle m = by_device m.device state m (unsealed_line literal handle)
 
--- by what reading the token gave. No token that is read is a bound one, whose kind is at byte 12,
--- and no reading ends for want of memory
+-- by what reading the token gave. A bound one is refused at its kind, which is at byte 12: no policy is
+-- at hand. No reading ends for want of memory
 abbrev pub token_line : List ℕ → List ℕ → Result Token FileError → Machine → Outcome
 token_line state path (Ok (token.Literal handle literal)) m = literal_line state literal handle m
 token_line state path (Ok (token.Bound handle)) m = refused_line (said.Malformed path (place.At 12)) m
 token_line state path (Err (file.Malformed at kind)) m = refused_line (said.Malformed path (place.At at)) m
-token_line state path (Err file.Memory) m = refused_line said.Memory m
+token_line state path (Err file.Memory) m = unchanged (Stops stop.Memory) m
 
 -- by what stands at the token's path
 abbrev pub content_line : List ℕ → List ℕ → Content → Machine → Outcome

@@ -2,11 +2,11 @@
 ghost use Rattle.std.specs.Prelude.{◌≡◌, true, IfOk, IfErr};
 ghost use Rattle.policy_session.specs.Answers.{is_answer, is_refusal};
 ghost use Rattle.policy_session.specs.LiteralUnseal.{IsNeverForeseen};
-ghost use Rattle.pcrlock_line.specs.Outcome.{ending_of};
-ghost use Rattle.pcrlock_open.specs.Endings.{answer_of, result_ending, IsStopFor, IsStopAfter};
+ghost use Rattle.pcrlock_line.specs.Outcome.{Refused, ending_of};
+ghost use Rattle.pcrlock_open.specs.Endings.{error_ending, result_ending, IsStopFor, IsStopAfter};
 
+use pcrlock_answer::{Answer, key_line};
 use pcrlock_line::{Reply, Stop};
-use pcrlock_words::{Answer, key_line};
 use pl_base::{Name, Small};
 use policy_file::Literal;
 use policy_session::UnsealError;
@@ -26,7 +26,7 @@ pub(crate) fn limit(alloc: Global, kind: &str, number: u64) -> Result<Answer, St
 /// The answer for a refusal.
 fn answer_to(alloc: Global, literal: &Literal, error: &UnsealError) -> Result<Answer, Stop>
     requires { IsNeverForeseen error.now }
-    ensures told { IfOk result (λ answer. (answer ≡ answer_of literal.now error.now) × (is_refusal error.now ≡ true)) }
+    ensures told { IfOk result (λ answer. (Refused answer ≡ error_ending literal.now error.now) × (is_refusal error.now ≡ true)) }
     ensures cause { IfErr result (λ stop. IsStopFor error.now stop) }
 {
     match error {

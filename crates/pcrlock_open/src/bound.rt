@@ -14,17 +14,17 @@ ghost use Rattle.tpm_model.specs.declared.parts.Parts.{Parts};
 ghost use Rattle.tpm_model.specs.Rules.{HasRules};
 ghost use Rattle.pcrlock_line.specs.Causes.{HasCauses};
 ghost use Rattle.pcrlock_line.specs.Machine.{Machine, Tells};
-ghost use Rattle.pcrlock_line.specs.Outcome.{Gives, ending_of};
-ghost use Rattle.pcrlock_words.specs.declared.answer.Answer.TheVariants as said;
+ghost use Rattle.pcrlock_line.specs.Outcome.{Gives, Refused, ending_of};
+ghost use Rattle.pcrlock_answer.specs.declared.answer.Answer.TheVariants as said;
 ghost use Rattle.pcrlock_line.specs.Stopped.{StandsAmong};
 ghost use Rattle.pcrlock_open.specs.Bound.{bound_line, held_after, held_by, held_ending, held_strings};
-ghost use Rattle.pcrlock_open.specs.BoundEndings.{IsChoice, IsEnded, IsOutdated, bound_answer as bound_answer_of, bound_ending};
+ghost use Rattle.pcrlock_open.specs.BoundEndings.{IsChoice, IsEnded, IsOutdated, bound_ending, bound_error_ending};
 ghost use Rattle.pcrlock_open.specs.Endings.{IsStopAfter, IsStopFor};
 
 use crate::answers::limit;
 use hash_bank::Digest;
+use pcrlock_answer::{Answer, key_line};
 use pcrlock_line::{Reply, Stop, ready};
-use pcrlock_words::{Answer, key_line};
 use pl_base::{Name, Small};
 use policy_file::Policy;
 use policy_session::{
@@ -36,7 +36,7 @@ use tpm_device::Tpm;
 /// The answer for a refusal.
 fn bound_answer(alloc: Global, error: &UnsealError) -> Result<Answer, Stop>
     requires { IsNeverLiteral error.now }
-    ensures told { IfOk result (λ answer. (answer ≡ bound_answer_of error.now) × (is_refusal error.now ≡ true)) }
+    ensures told { IfOk result (λ answer. (Refused answer ≡ bound_error_ending error.now) × (is_refusal error.now ≡ true)) }
     ensures cause { IfErr result (λ stop. IsStopFor error.now stop) }
 {
     match error {

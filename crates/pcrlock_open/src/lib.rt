@@ -4,8 +4,6 @@
 mod answers;
 mod bound;
 mod opening;
-#[cfg(test)]
-mod tests;
 mod token;
 
 pub use crate::bound::open_bound;

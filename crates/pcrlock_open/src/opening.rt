@@ -102,7 +102,7 @@ fn opened<F: Files, T: Tpm>(
 /// |---|---|
 /// | `NoToken` | no file stands at the path |
 /// | `Limit`, `token-bytes` | the file has this many bytes, more than 256 |
-/// | `Malformed` | the file spells no token by a literal; a bound token is not read yet |
+/// | `Malformed` | the file spells no token, or one of a bound object, which is refused at its kind, 12 |
 /// | `Limit`, `state-bytes` | the TPM's state file has this many bytes, more than a state may have |
 /// | `Malformed` | the TPM's state file spells no state, or one that breaks a rule |
 /// | `SessionsFull` | 64 sessions are open (TPM 2.0 Library Part 3, TPM2_StartAuthSession) |

@@ -9,14 +9,17 @@ ghost use Rattle.std.specs.Prelude.{ℕ, List as Sequence};
 ghost use Rattle.policy_file.specs.TokenReading.{token_in};
 
 use crate::answers::limit;
+use pcrlock_answer::{Answer, Place};
 use pcrlock_line::{Found, Stop, read_file};
-use pcrlock_words::{Answer, Place};
 use pl_base::{Files, Name};
 use policy_file::{FileError, Literal, Token, read_token};
 use std::alloc::Global;
 
 /// The most bytes that a token file may have.
 const TOKEN_LIMIT: u64 = 256;
+
+/// The place of a token's kind.
+const KIND: u32 = 12;
 
 /// What the token's file gave.
 #[derive(Debug, Drop)]
@@ -57,7 +60,7 @@ fn missing(alloc: Global, path: &Name) -> Result<TokenRead, Stop>
     }
 }
 
-/// The token that the bytes spell.
+/// The token that the bytes spell. One of a bound object is refused at its kind: no policy is at hand.
 fn token_of(alloc: Global, path: &Name, bytes: &[u8]) -> Result<TokenRead, Stop>
     ensures told { IfOk result (λ read. (state : Sequence ℕ) (m : Machine) → token_line state path.now (token_in bytes.now) m ≡ read_line state read m) }
     ensures valid { IfOk result IsRead }
@@ -65,7 +68,7 @@ fn token_of(alloc: Global, path: &Name, bytes: &[u8]) -> Result<TokenRead, Stop>
 {
     match read_token(bytes) {
         Ok(Token::Literal { object, literal }) => Ok(TokenRead::Literal { object, literal }),
-        Ok(Token::Bound { .. }) => unreachable!(),
+        Ok(Token::Bound { .. }) => malformed(alloc, path, KIND),
         Err(FileError::Malformed { place, .. }) => malformed(alloc, path, place),
         Err(FileError::Memory) => Err(Stop::Memory),
     }

@@ -1,5 +1,5 @@
 -- The world after `enroll` is tied to the state that it leaves.
-use Rattle.std.proofs.Common.{◌≡◌, ℕ, ◌+◌, ◌<◌, ◌≤◌, Bool, true, false, cond, not, ◌&&◌, List, [], ◌∷◌, ◌++◌, map, length, inl, inr, refl, sym, ap, subst, ◌∙◌, arith}
+use Rattle.std.proofs.Common.{◌≡◌, ℕ, ◌+◌, Bool, true, false, cond, not, ◌&&◌, List, [], ◌∷◌, ◌++◌, map, length, inl, inr, refl, sym, subst, arith}
 use Rattle.std.specs.Prelude.{Option, None, Some, nat_le, ◌==◌}
 use Rattle.std.proofs.lemmas.Bool.{cond_both}
 use Rattle.hash_bank.specs.declared.bank.Bank.{Bank}
@@ -7,7 +7,6 @@ use Rattle.hash_bank.specs.declared.bank.Bank.TheVariants.{Sha1, Sha256, Sha384,
 use Rattle.policy_digest.specs.Policies.{IsPolicyHash}
 use Rattle.policy_file.specs.declared.token.Literal.{Literal}
 use Rattle.tpm_model.specs.declared.response.Response.{Response}
-use Rattle.tpm_model.specs.declared.response.Response.TheVariants as answer
 use Rattle.tpm_model.specs.declared.object.Object.{Object}
 use Rattle.tpm_model.specs.declared.parts.Parts.{Parts}
 use Rattle.tpm_model.specs.Binding as binding
@@ -26,7 +25,7 @@ use Rattle.tpm_model.specs.World.{World}
 use Rattle.tpm_model.specs.Tied.{Tied}
 use Rattle.tpm_device.specs.Stored.{Holds}
 use Rattle.pcrlock_line.specs.Machine.{Live}
-use Rattle.pcrlock_seal.specs.Enroll.{sealed_handle, token_written, key_sealed, with_key, with_value, literal_now, literal_hash, enrolled_line}
+use Rattle.pcrlock_seal.specs.Enroll.{sealed_handle, token_written, with_key, with_value, literal_now, literal_hash, enrolled_line}
 use Rattle.pcrlock_seal.specs.EnrollWorld.{strings_of, sealed_or, key_world, with_key_world, value_world, enroll_world, key_state, value_state, enroll_state}
 use Rattle.pcrlock_seal.proofs.Objects.{none_found, tied_object, tied_sealed}
 
@@ -67,7 +66,7 @@ drawn_tied literal (Some key) draws m w hash rules t = key_tied key literal m w 
 drawn_tied literal None (word ∷ rest) m w hash rules t = key_tied word literal m w hash rules t
 drawn_tied literal None [] m w hash rules t = tied_hashed m.state w (strings_of literal) t
 
-policy_bank : (bank : Bank) → IsPolicyHash (literal_hash bank)
+pub policy_bank : (bank : Bank) → IsPolicyHash (literal_hash bank)
 policy_bank Sha1 = inl refl
 policy_bank Sha256 = inl refl
 policy_bank Sha384 = inr refl

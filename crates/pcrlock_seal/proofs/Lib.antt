@@ -3,3 +3,4 @@ pub mod Sealed
 pub mod Objects
 pub mod Enrolled
 pub mod Stops
+pub mod Acts

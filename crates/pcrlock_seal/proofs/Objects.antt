@@ -1,27 +1,23 @@
 -- A state with one more object, and the world with it.
-use Rattle.std.proofs.Common.{◌≡◌, ℕ, ◌+◌, ◌<◌, ◌≤◌, Bool, true, false, cond, List, [], ◌∷◌, ◌++◌, map, refl, sym, ap, subst, ◌∙◌, arith}
-use Rattle.std.specs.Prelude.{◌≢◌, Option, None, Some, Contains, ◌==◌}
+use Rattle.std.proofs.Common.{◌≡◌, ℕ, ◌+◌, ◌≤◌, Bool, true, false, cond, List, [], ◌∷◌, ◌++◌, map, refl, sym, ap, subst, ◌∙◌, arith}
+use Rattle.std.specs.Prelude.{None, Some, ◌==◌}
 use Rattle.std.specs.Option.{option_or}
 use Rattle.std.specs.List.{find}
 use Rattle.std.specs.Ordering.{nat_cmp, eq_by_cmp, is_eq}
 use Rattle.std.specs.declared.cmp.Ordering.TheVariants.{Less, Equal, Greater}
 use Rattle.std.specs.Cmp.{nat_cmp_total}
-use Rattle.std.specs.FinMap.{get, insert, get-insert, nat_cmp-IsAntisymmetric}
-use Rattle.std.proofs.lemmas.List.Elements.{Contains-append_left, Contains-append_right}
+use Rattle.std.specs.FinMap.{get, get-insert, nat_cmp-IsAntisymmetric}
+use Rattle.std.proofs.lemmas.List.Elements.{Contains-append_right}
 use Rattle.std.proofs.lemmas.List.Folds.{find-append}
 use Rattle.std.proofs.lemmas.Bool.{eqb-true, eq-eqb}
-use Rattle.hash_bank.specs.HashedString.{HashedString}
-use Rattle.policy_digest.specs.TableStrings.{table_strings}
-use Rattle.policy_digest.specs.BindingStrings.{bind_strings}
-use Rattle.policy_digest.specs.Pin.{pin_strings}
 use Rattle.tpm_model.specs.declared.object.Object.{Object}
 use Rattle.tpm_model.specs.declared.parts.Parts.{Parts}
 use Rattle.tpm_model.specs.Binding.{Binding, Index, Literal, policy_of, binding_strings}
 use Rattle.tpm_model.specs.Sessions.{is_object, object_at}
 use Rattle.tpm_model.proofs.Handles.{AreHandles}
-use Rattle.tpm_model.specs.World.{World, BoundObject, AreHashed, sealed_world, hashed_world}
+use Rattle.tpm_model.specs.World.{World, BoundObject, sealed_world, hashed_world}
 use Rattle.tpm_model.specs.Tied.{Tied, IsHeld, IsSoundBinding}
-use Rattle.tpm_model.proofs.Ties.{more_hashed, tied_hashed}
+use Rattle.tpm_model.proofs.Ties.{tied_hashed}
 
 -- no object has a handle past those of all
 pub none_found : (first end handle : ℕ) (objects : List Object) → AreHandles first end (map (λ (x : Object). x.handle) objects) → end ≤ handle → object_at handle objects ≡ None

@@ -1,5 +1,5 @@
 -- What a sealed key comes to, told by the answer of the TPM and by the word that was drawn.
-use Rattle.std.proofs.Common.{◌≡◌, ℕ, List, [], ◌∷◌, sym, subst}
+use Rattle.std.proofs.Common.{◌≡◌, ℕ, List, ◌∷◌, sym, subst}
 use Rattle.std.specs.Prelude.{Option, None, Some, Result, IfOk, IfSome}
 use Rattle.pl_base.specs.FileMap.{FileMap}
 use Rattle.policy_file.specs.declared.token.Literal.{Literal}
@@ -11,7 +11,7 @@ use Rattle.tpm_model.specs.Rules.{HasRules}
 use Rattle.tpm_device.specs.Stored.{Stored}
 use Rattle.pcrlock_line.specs.declared.reply.Reply.{Reply}
 use Rattle.pcrlock_line.specs.declared.stop.Stop.{Stop}
-use Rattle.pcrlock_line.specs.Machine.{Machine, Live, machine}
+use Rattle.pcrlock_line.specs.Machine.{Live}
 use Rattle.pcrlock_line.specs.Outcome.{Gives}
 use Rattle.pcrlock_seal.specs.Enroll.{sealed_handle, token_written, key_sealed, with_key}
 

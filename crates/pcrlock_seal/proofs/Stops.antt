@@ -1,6 +1,6 @@
 -- What stands after a stop of `enroll`.
-use Rattle.std.proofs.Common.{◌≡◌, ◌⊎◌, ℕ, ◌≤◌, Bool, List, [], ◌∷◌, length, inl, inr, refl, sym, subst}
-use Rattle.std.specs.Prelude.{Option, None, Some, Result, Ok, Err, IfErr}
+use Rattle.std.proofs.Common.{◌≡◌, ◌⊎◌, ℕ, ◌≤◌, List, [], ◌∷◌, length, inl, inr, sym, subst}
+use Rattle.std.specs.Prelude.{Option, None, Some, Result, IfErr}
 use Rattle.std.specs.FinMap.{insert}
 use Rattle.pl_base.specs.FileMap.{FileMap}
 use Rattle.hash_bank.specs.declared.bank.Bank.{Bank}
@@ -17,7 +17,7 @@ use Rattle.tpm_model.proofs.KeepsRules.{keeps-seal}
 use Rattle.tpm_device.specs.Stored.{Stored, Holds}
 use Rattle.pcrlock_line.specs.declared.reply.Reply.{Reply}
 use Rattle.pcrlock_line.specs.declared.stop.Stop.{Stop}
-use Rattle.pcrlock_line.specs.Machine.{Machine, Live, Tells, machine}
+use Rattle.pcrlock_line.specs.Machine.{Live, Tells, machine}
 use Rattle.pcrlock_line.specs.Stopped.{StandsAt, StandsAmong}
 use Rattle.pcrlock_line.proofs.Standing.{holds_same}
 use Rattle.pcrlock_seal.specs.Enroll.{sealed_handle, sealed_machine, token_written, key_sealed, with_key, with_value, literal_now, enrolled_line}

@@ -1,5 +1,5 @@
 -- What `enroll` does with the value of a PCR: it seals a key to that value and writes the token.
-use Rattle.std.specs.Prelude.{◌≡◌, ℕ, ◌&&◌, nat_le, if◌then◌else◌, List, [], ◌∷◌, ◌++◌, codes, Option, None, Some}
+use Rattle.std.specs.Prelude.{ℕ, ◌&&◌, nat_le, if◌then◌else◌, List, [], ◌∷◌, codes, Option, None, Some}
 use Rattle.std.specs.FinMap.{insert}
 use Rattle.hash_bank.specs.declared.bank.Bank.{Bank}
 use Rattle.hash_bank.specs.declared.bank.Bank.TheVariants.{Sha1, Sha256, Sha384, Sha512}
@@ -15,11 +15,12 @@ use Rattle.tpm_model.specs.declared.parts.Parts.{Parts}
 use Rattle.tpm_model.specs.Pcrs.{pcr_of}
 use Rattle.tpm_model.specs.Binding.{literal_policy}
 use Rattle.tpm_model.specs.ObjectCommands.{seal}
-use Rattle.pcrlock_words.specs.declared.answer.Answer.{Answer}
-use Rattle.pcrlock_words.specs.declared.answer.Answer.TheVariants as said
-use Rattle.pcrlock_words.specs.Texts.{enrolled_text}
+use Rattle.pcrlock_answer.specs.declared.answer.Answer.{Answer}
+use Rattle.pcrlock_answer.specs.declared.answer.Answer.TheVariants as said
+use Rattle.pcrlock_answer.specs.Texts.{enrolled_text}
 use Rattle.pcrlock_line.specs.Machine.{Machine, Live, machine}
-use Rattle.pcrlock_line.specs.Outcome.{Outcome, Fine, Refused, refused_line}
+use Rattle.pcrlock_line.specs.declared.stop.Stop.TheVariants as stop
+use Rattle.pcrlock_line.specs.Outcome.{Outcome, Fine, Refused, Stops, refused_line}
 use Rattle.pcrlock_line.specs.Begun.{by_device}
 
 -- a literal's hash: SHA-384 for the two longest banks, else SHA-256
@@ -72,12 +73,12 @@ key_sealed path literal key m =
     let r = seal (literal_policy literal.hash literal.bank literal.pcr literal.value) key m.state in
     token_written path literal (sealed_handle r.0) r.0 r.1 m
 
--- the key is the one given, or the next random word; where none is left, none can be drawn
+-- the key is the one given, or the next random word; where none is left, the command stops
 abbrev pub with_key : List ℕ → Literal → Option (List ℕ) → List (List ℕ) → Live → Outcome
 with_key path literal (Some key) draws m = key_sealed path literal key m
 with_key path literal None (word ∷ rest) m = key_sealed path literal word (record m { draws = rest })
 with_key path literal None [] m = record {
-  ending = Refused said.EntropyFault;
+  ending = Stops stop.EntropyFault;
   after = machine m;
   hashed = literal_strings literal.hash literal.bank literal.pcr literal.value;
   stops = machine m ∷ [];

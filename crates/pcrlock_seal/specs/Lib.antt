@@ -1,3 +1,4 @@
+pub mod Acts
 pub mod Values
 pub mod Enroll
 pub mod EnrollWorld

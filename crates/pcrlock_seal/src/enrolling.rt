@@ -12,7 +12,7 @@ ghost use Rattle.std.specs.FinMap.{insert};
 ghost use Rattle.pl_base.specs.FileMap.{FileMap};
 ghost use Rattle.policy_file.specs.TokenText.{token_text};
 ghost use Rattle.policy_file.specs.declared.token.Token.TheVariants as token_value;
-ghost use Rattle.pcrlock_words.specs.Texts.{enrolled_text};
+ghost use Rattle.pcrlock_answer.specs.Texts.{enrolled_text};
 ghost use Rattle.tpm_model.specs.World.{World};
 ghost use Rattle.tpm_model.specs.Tied.{Tied};
 ghost use Rattle.pcrlock_seal.specs.EnrollWorld.{enroll_state, enroll_world};
@@ -26,8 +26,8 @@ ghost use Rattle.pcrlock_seal.specs.Enroll.{literal_hash as hash_of_literal, sea
 
 use crate::values::present_value;
 use hash_bank::{Bank, Digest};
+use pcrlock_answer::{Answer, enrolled_line};
 use pcrlock_line::{Reply, Stop, ask, draw, ready, replace_file};
-use pcrlock_words::{Answer, enrolled_line};
 use pl_base::{Entropy, Files, Memory, Name, Small};
 use policy_digest::{policy_pcr_in, values_digest_in};
 use policy_file::{Literal, Token, write_token};
@@ -205,9 +205,9 @@ pub fn enroll<F: Files, T: Tpm, E: Entropy>(
 ) -> Result<Reply, Stop>
     requires { pcr ≤ 23 }
     ensures causes { HasCauses (F.faults files.old, E.faults entropy.old, T.faults tpm.old, 0) (F.faults files.new, E.faults entropy.new, T.faults tpm.new, 0) result }
-    ensures told { (m : Machine) → Tells (F.held files.old) (T.stored tpm.old) (E.words entropy.old) m
-        → IfOk result (λ reply. Gives (F.held files.new) (T.stored tpm.new) (E.words entropy.new) reply (enroll_line state.now path.now pcr bank key m)) }
-    ensures stops { (m : Machine) → Tells (F.held files.old) (T.stored tpm.old) (E.words entropy.old) m
+    ensures told { (m : Machine) → Tells (F.held files.old) (T.stored tpm.old) (E.draws entropy.old) m
+        → IfOk result (λ reply. Gives (F.held files.new) (T.stored tpm.new) (E.draws entropy.new) reply (enroll_line state.now path.now pcr bank key m)) }
+    ensures stops { (m : Machine) → Tells (F.held files.old) (T.stored tpm.old) (E.draws entropy.old) m
         → IfErr result (λ _. StandsAmong (F.held files.new) (T.stored tpm.new) (enroll_line state.now path.now pcr bank key m).stops) }
     // A world that is tied to the state before is tied, with the object, to the state afterwards.
     ensures tied { (m : Live) (w : World) → keeps_object_order m.state ≡ true → Tied m.state w → Tied (enroll_state pcr bank key m) (enroll_world pcr bank key m w) }
@@ -233,9 +233,9 @@ fn with_device<F: Files, T: Tpm, E: Entropy>(
     requires readiness { T.ready tpm.old ≡ true }
     requires number { pcr ≤ 23 }
     ensures causes { HasCauses (F.faults files.old, E.faults entropy.old, T.faults tpm.old, 0) (F.faults files.new, E.faults entropy.new, T.faults tpm.new, 0) result }
-    ensures told { (m : Live) → Tells (F.held files.old) (T.stored tpm.old) (E.words entropy.old) (machine m) → T.live tpm.old ≡ Some m.state
-        → IfOk result (λ reply. Gives (F.held files.new) (T.stored tpm.new) (E.words entropy.new) reply (enrolled_line path.now pcr bank key m)) }
-    ensures stops { (m : Live) → Tells (F.held files.old) (T.stored tpm.old) (E.words entropy.old) (machine m) → T.live tpm.old ≡ Some m.state
+    ensures told { (m : Live) → Tells (F.held files.old) (T.stored tpm.old) (E.draws entropy.old) (machine m) → T.live tpm.old ≡ Some m.state
+        → IfOk result (λ reply. Gives (F.held files.new) (T.stored tpm.new) (E.draws entropy.new) reply (enrolled_line path.now pcr bank key m)) }
+    ensures stops { (m : Live) → Tells (F.held files.old) (T.stored tpm.old) (E.draws entropy.old) (machine m) → T.live tpm.old ≡ Some m.state
         → IfErr result (λ _. StandsAmong (F.held files.new) (T.stored tpm.new) (enrolled_line path.now pcr bank key m).stops) }
 {
     match present_value(alloc, tpm, bank, pcr) {
@@ -270,9 +270,9 @@ fn seal_under<F: Files, T: Tpm, E: Entropy>(
     requires readiness { T.ready tpm.old ≡ true }
     requires literal { IsLiteral literal.now }
     ensures causes { HasCauses (F.faults files.old, E.faults entropy.old, T.faults tpm.old, 0) (F.faults files.new, E.faults entropy.new, T.faults tpm.new, 0) result }
-    ensures told { (m : Live) → Tells (F.held files.old) (T.stored tpm.old) (E.words entropy.old) (machine m) → T.live tpm.old ≡ Some m.state
-        → IfOk result (λ reply. Gives (F.held files.new) (T.stored tpm.new) (E.words entropy.new) reply (with_key path.now literal.now key m.draws m)) }
-    ensures stops { (m : Live) → Tells (F.held files.old) (T.stored tpm.old) (E.words entropy.old) (machine m) → T.live tpm.old ≡ Some m.state
+    ensures told { (m : Live) → Tells (F.held files.old) (T.stored tpm.old) (E.draws entropy.old) (machine m) → T.live tpm.old ≡ Some m.state
+        → IfOk result (λ reply. Gives (F.held files.new) (T.stored tpm.new) (E.draws entropy.new) reply (with_key path.now literal.now key m.draws m)) }
+    ensures stops { (m : Live) → Tells (F.held files.old) (T.stored tpm.old) (E.draws entropy.old) (machine m) → T.live tpm.old ≡ Some m.state
         → IfErr result (λ _. StandsAmong (F.held files.new) (T.stored tpm.new) (with_key path.now literal.now key m.draws m).stops) }
 {
     match key {
@@ -293,9 +293,9 @@ fn seal_drawn<F: Files, T: Tpm, E: Entropy>(
     requires readiness { T.ready tpm.old ≡ true }
     requires literal { IsLiteral literal.now }
     ensures causes { HasCauses (F.faults files.old, E.faults entropy.old, T.faults tpm.old, 0) (F.faults files.new, E.faults entropy.new, T.faults tpm.new, 0) result }
-    ensures told { (m : Live) → Tells (F.held files.old) (T.stored tpm.old) (E.words entropy.old) (machine m) → T.live tpm.old ≡ Some m.state
-        → IfOk result (λ reply. Gives (F.held files.new) (T.stored tpm.new) (E.words entropy.new) reply (with_key path.now literal.now None m.draws m)) }
-    ensures stops { (m : Live) → Tells (F.held files.old) (T.stored tpm.old) (E.words entropy.old) (machine m) → T.live tpm.old ≡ Some m.state
+    ensures told { (m : Live) → Tells (F.held files.old) (T.stored tpm.old) (E.draws entropy.old) (machine m) → T.live tpm.old ≡ Some m.state
+        → IfOk result (λ reply. Gives (F.held files.new) (T.stored tpm.new) (E.draws entropy.new) reply (with_key path.now literal.now None m.draws m)) }
+    ensures stops { (m : Live) → Tells (F.held files.old) (T.stored tpm.old) (E.draws entropy.old) (machine m) → T.live tpm.old ≡ Some m.state
         → IfErr result (λ _. StandsAmong (F.held files.new) (T.stored tpm.new) (with_key path.now literal.now None m.draws m).stops) }
 {
     match draw(entropy) {

@@ -1,10 +1,9 @@
 use Rattle.pcrlock_line.proofs.Composed.{stops, on_tpm}
-use Rattle.std.proofs.Common.{◌≡◌, sym, ap, ◌∙◌}
+use Rattle.std.proofs.Common.{sym, ap, ◌∙◌}
 use Rattle.std.specs.Prelude.{Some, IfOk, IfErr}
 use Rattle.pcrlock_line.specs.declared.reply.Reply.{Reply}
 use Rattle.pcrlock_line.specs.Outcome.{Outcome, Gives}
 use Rattle.pcrlock_line.specs.Stopped.{StandsAmong}
-use Rattle.pcrlock_line.specs.Machine.{machine}
 use Rattle.pcrlock_line.proofs.Devices.{begun_by, tells_begun, kept_tells, gives_refused, stops_first, stands}
 use Rattle.pcrlock_seal.specs.Enroll.{enrolled_line}
 use Rattle.pcrlock_seal.proofs.Stops.{enrolled_first, at_state}
@@ -19,7 +18,7 @@ returns-in-Err-clause-causes g c =
 pub returns-in-Ok-None-clause-told : goal.returns-in-Ok-None-clause-told
 returns-in-Ok-None-clause-told g c = λ m tells.
     begun_by m.device c.args.state.now m (enrolled_line c.args.path.now c.args.pcr c.args.bank c.args.key)
-    (λ (o : Outcome). IfOk c.with_device.result (λ (r : Reply). Gives (g.F.Files.held c.with_device.new.files) (g.T.Tpm.stored c.with_device.new.tpm) (g.E.Entropy.words c.with_device.new.entropy) r o))
+    (λ (o : Outcome). IfOk c.with_device.result (λ (r : Reply). Gives (g.F.Files.held c.with_device.new.files) (g.T.Tpm.stored c.with_device.new.tpm) (g.E.Entropy.draws c.with_device.new.entropy) r o))
     (sym c.in-Ok-None.field-0-is ∙ c.in-Ok-None.ensures.told m.device tells.state)
     (λ s e. c.with_device.ensures.told (record { files = m.files; state = s; draws = m.draws })
     (tells_begun _ _ _ _ m s c.ready.ensures.same e tells) (c.in-Ok-None.ensures.live s (tells.state ∙ ap Some e)).live_is)
