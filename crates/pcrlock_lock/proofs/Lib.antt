@@ -1,0 +1,5 @@
+pub mod Acts
+pub mod Done
+pub mod Lacking
+pub mod Removed
+pub mod Stops

@@ -1,0 +1,8 @@
+pub mod FileChange
+pub mod Changing
+pub mod LockRaw
+pub mod MadeFiles
+pub mod LockFirmware
+pub mod UnlockFirmware
+pub mod Made
+pub mod Acts

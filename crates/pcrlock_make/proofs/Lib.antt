@@ -1,4 +1,0 @@
-pub mod Done
-pub mod Lacking
-pub mod Removed
-pub mod Stops

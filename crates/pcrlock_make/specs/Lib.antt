@@ -1,7 +1,0 @@
-pub mod FileChange
-pub mod Changing
-pub mod LockRaw
-pub mod MadeFiles
-pub mod LockFirmware
-pub mod UnlockFirmware
-pub mod Made
