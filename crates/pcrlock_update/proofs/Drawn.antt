@@ -9,7 +9,7 @@ use Rattle.pcrlock_line.specs.declared.stop.Stop.{Stop}
 use Rattle.pcrlock_line.specs.Machine.{Live}
 use Rattle.pcrlock_line.specs.Outcome.{Outcome, Gives}
 use Rattle.pcrlock_line.specs.Stopped.{StandsAmong}
-use Rattle.pcrlock_words.specs.Texts.{pin_text}
+use Rattle.pcrlock_answer.specs.Texts.{pin_text}
 use Rattle.pcrlock_update.specs.NewPolicy.{new_with, new_line_from}
 
 -- the next random word is the pin, and the rest is to come

@@ -4,7 +4,7 @@ use Rattle.std.specs.Prelude.{Option, None, Some, Result, Ok, Err}
 use Rattle.pl_base.specs.FileMap.{FileMap}
 use Rattle.tpm_model.specs.declared.parts.Parts.{Parts}
 use Rattle.tpm_device.specs.Stored.{Stored, Holds}
-use Rattle.pcrlock_words.specs.declared.answer.Answer.{Answer}
+use Rattle.pcrlock_answer.specs.declared.answer.Answer.{Answer}
 use Rattle.pcrlock_line.specs.Machine.{Machine, Live, machine}
 use Rattle.pcrlock_line.specs.Running.{Keeps}
 use Rattle.pcrlock_line.specs.Stopped.{StandsAt, StandsAmong}

@@ -14,14 +14,14 @@ use Rattle.tpm_model.specs.IndexCommands.{nv_read_public, public_answer}
 use Rattle.tpm_model.specs.Rules.{HasRules}
 use Rattle.tpm_device.specs.Stored.{Stored, Holds}
 use Rattle.pcrlock_line.specs.Content.{content_at}
-use Rattle.pcrlock_words.specs.declared.answer.Answer.{Answer}
+use Rattle.pcrlock_answer.specs.declared.answer.Answer.{Answer}
 use Rattle.pcrlock_line.specs.declared.reply.Reply.{Reply}
 use Rattle.pcrlock_line.specs.Machine.{Machine, Live, machine}
 use Rattle.pcrlock_line.specs.Outcome.{Gives}
 use Rattle.pcrlock_line.specs.Running.{Keeps}
 use Rattle.pcrlock_line.specs.Stopped.{StandsAt, StandsAmong}
 use Rattle.pcrlock_line.proofs.Standing.{holds_same}
-use Rattle.pcrlock_update.specs.PolicyAt.{policy_by, policy_of, policy_limit}
+use Rattle.pcrlock_deeds.specs.PolicyAt.{policy_by, policy_of, policy_limit}
 use Rattle.pcrlock_update.specs.RemovePolicy.{has_policy, shows_policy, without_index, without_pin, removed_line, removal_line, removal_of, remove_policy_line}
 
 -- the answer shows the policy's digest exactly where the index has it

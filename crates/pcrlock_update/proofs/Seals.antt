@@ -16,7 +16,7 @@ use Rattle.tpm_model.specs.Binding.{index_policy}
 use Rattle.tpm_model.specs.Rules.{HasRules}
 use Rattle.tpm_model.proofs.KeepsRules.{keeps-seal}
 use Rattle.tpm_device.specs.Stored.{Stored}
-use Rattle.pcrlock_words.specs.declared.answer.Answer.{Answer}
+use Rattle.pcrlock_answer.specs.declared.answer.Answer.{Answer}
 use Rattle.pcrlock_line.specs.Asked.{IsAnswered, IsStopped}
 use Rattle.pcrlock_line.specs.declared.stop.Stop.{Stop}
 use Rattle.pcrlock_line.specs.Running.{Runs, Keeps}

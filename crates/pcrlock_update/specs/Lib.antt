@@ -1,4 +1,3 @@
-pub mod PolicyAt
 pub mod RemovePolicy
 pub mod Changes
 pub mod Sending

@@ -11,11 +11,11 @@ use Rattle.policy_digest.specs.PlainTable.{root_of}
 use Rattle.policy_digest.specs.TableStrings.{table_strings}
 use Rattle.policy_file.specs.declared.policy.Policy.{Policy}
 use Rattle.policy_file.specs.PolicyText.{policy_text}
-use Rattle.pcrlock_words.specs.declared.answer.Answer.{Answer}
-use Rattle.pcrlock_words.specs.declared.answer.Answer.TheVariants as said
-use Rattle.pcrlock_words.specs.Texts.{line_end, pin_text}
+use Rattle.pcrlock_answer.specs.declared.answer.Answer.{Answer}
+use Rattle.pcrlock_answer.specs.Texts.{line_end, pin_text}
 use Rattle.pcrlock_line.specs.Machine.{Live, machine}
-use Rattle.pcrlock_line.specs.Outcome.{Ending, Fine, Refused, Outcome}
+use Rattle.pcrlock_line.specs.declared.stop.Stop.TheVariants as stop
+use Rattle.pcrlock_line.specs.Outcome.{Ending, Fine, Refused, Stops, Outcome}
 use Rattle.pcrlock_update.specs.Changes.{Made, changes_made, made_then}
 use Rattle.pcrlock_update.specs.Sealed.{pin_made}
 use Rattle.pcrlock_update.specs.declared.change.Change.{Change}
@@ -88,14 +88,14 @@ abbrev pub new_with : List ℕ → List ℕ → Option ℕ → Bool → ℕ → 
 new_with text path old stands index table pin m =
     made_line (text ++ made_text) (update_strings index pin table) m (new_made path old stands index pin table m)
 
--- the pin is the one given, or the next random word, which is printed; where none is left, none can be
--- drawn
+-- the pin is the one given, or the next random word, which is printed; where none is left, the command
+-- stops
 abbrev pub new_line_from : List (List ℕ) → List ℕ → List ℕ → Option ℕ → Bool → ℕ → Table → Option (List ℕ) → Live → Outcome
 new_line_from draws text path old stands index table (Some pin) m = new_with text path old stands index table pin m
 new_line_from (word ∷ rest) text path old stands index table None m =
     new_with (text ++ pin_text word) path old stands index table word (record m { draws = rest })
 new_line_from [] text path old stands index table None m = record {
-  ending = Refused said.EntropyFault;
+  ending = Stops stop.EntropyFault;
   after = machine m;
   hashed = [];
   stops = machine m ∷ [];

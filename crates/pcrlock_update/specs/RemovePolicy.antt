@@ -12,13 +12,13 @@ use Rattle.tpm_model.specs.declared.response.Response.TheVariants as answer
 use Rattle.tpm_model.specs.declared.response.Refusal.TheVariants as refusal
 use Rattle.tpm_model.specs.IndexCommands.{nv_undefine}
 use Rattle.tpm_model.specs.ObjectCommands.{evict}
-use Rattle.pcrlock_words.specs.declared.answer.Answer.{Answer}
-use Rattle.pcrlock_words.specs.declared.answer.Answer.TheVariants as said
-use Rattle.pcrlock_words.specs.Texts.{line_end}
+use Rattle.pcrlock_answer.specs.declared.answer.Answer.{Answer}
+use Rattle.pcrlock_answer.specs.declared.answer.Answer.TheVariants as said
+use Rattle.pcrlock_answer.specs.Texts.{line_end}
 use Rattle.pcrlock_line.specs.Begun.{by_device}
 use Rattle.pcrlock_line.specs.Machine.{Machine, Live, machine}
 use Rattle.pcrlock_line.specs.Outcome.{Outcome, Fine, refused_line}
-use Rattle.pcrlock_update.specs.PolicyAt.{policy_of}
+use Rattle.pcrlock_deeds.specs.PolicyAt.{policy_of}
 
 -- the line that is printed
 unfoldable pub removed_text : List ℕ

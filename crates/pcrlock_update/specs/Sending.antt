@@ -4,7 +4,7 @@ use Rattle.tpm_model.specs.declared.command.Command.{Command}
 use Rattle.tpm_model.specs.declared.parts.Parts.{Parts}
 use Rattle.tpm_model.specs.Respond.{respond}
 use Rattle.tpm_device.specs.Stored.{Stored}
-use Rattle.pcrlock_words.specs.declared.answer.Answer.{Answer}
+use Rattle.pcrlock_answer.specs.declared.answer.Answer.{Answer}
 use Rattle.pcrlock_line.specs.declared.stop.Stop.{Stop}
 use Rattle.pcrlock_line.specs.Running.{Runs, Keeps}
 use Rattle.pcrlock_update.specs.Changes.{refusal_in}

@@ -11,8 +11,8 @@ use Rattle.policy_digest.specs.declared.table.Table.{Table}
 use Rattle.policy_digest.specs.Pin.{pin_policy_of}
 use Rattle.policy_digest.specs.Table.{values_eq}
 use Rattle.policy_file.specs.declared.policy.Policy.{Policy}
-use Rattle.pcrlock_words.specs.declared.answer.Answer.{Answer}
-use Rattle.pcrlock_words.specs.declared.answer.Answer.TheVariants as said
+use Rattle.pcrlock_answer.specs.declared.answer.Answer.{Answer}
+use Rattle.pcrlock_answer.specs.declared.answer.Answer.TheVariants as said
 use Rattle.pcrlock_update.specs.NewPolicy.{content_for}
 
 -- whether two tables are the same: one bank, and the same lists of values for the same PCRs, in order

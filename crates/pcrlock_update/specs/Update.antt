@@ -7,7 +7,7 @@ use Rattle.policy_digest.specs.Pin.{pin_policy_of}
 use Rattle.policy_digest.specs.Table.{valid_table}
 use Rattle.policy_file.specs.declared.policy.Policy.{Policy}
 use Rattle.policy_file.specs.PolicyText.{policy_text}
-use Rattle.pcrlock_words.specs.Texts.{line_end}
+use Rattle.pcrlock_answer.specs.Texts.{line_end}
 use Rattle.pcrlock_line.specs.Machine.{Live}
 use Rattle.pcrlock_line.specs.Outcome.{Outcome}
 use Rattle.pcrlock_update.specs.Changes.{Made, changes_made}

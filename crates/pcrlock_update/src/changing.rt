@@ -8,8 +8,8 @@ ghost use Rattle.pcrlock_update.specs.Changes.{Works, CameTo, answer_for, refusa
 ghost use Rattle.pcrlock_update.specs.Sending.{Sent};
 
 use crate::change::{Change, TpmChange};
+use pcrlock_answer::Answer;
 use pcrlock_line::{Stop, ask, replace_file};
-use pcrlock_words::Answer;
 use pl_base::{Files, Name};
 use std::alloc::Global;
 use tpm_device::Tpm;

@@ -1,5 +1,5 @@
-//! The policy in force, as commands read it from its file; the changes by which a table is put in force,
-//! under a new index or one that stands; and the command that takes the policy away, `remove-policy`.
+//! The changes by which a table is put in force, under a new index or one that stands; and the command
+//! that takes the policy away, `remove-policy`.
 #![tactic(auto)]
 
 mod building;
@@ -7,17 +7,13 @@ mod change;
 mod changing;
 mod lines;
 mod making;
-mod policy;
 mod removing;
 mod replacing;
 mod sealing;
 mod standing;
-#[cfg(test)]
-mod tests;
 mod updating;
 
 pub use crate::making::make_new_policy;
-pub use crate::policy::policy_at;
 pub use crate::removing::remove_policy;
 pub use crate::replacing::{update_policy, update_with_pin};
 pub use crate::standing::test_standing;

@@ -1,10 +1,10 @@
 //! The lines that commands on policies print.
 ghost use Rattle.std.specs.Prelude.{◌≡◌, ◌++◌, IfOk};
-ghost use Rattle.pcrlock_words.specs.Texts.{pin_text};
+ghost use Rattle.pcrlock_answer.specs.Texts.{pin_text};
 ghost use Rattle.pcrlock_update.specs.NewPolicy.{made_text as text_of_made};
 ghost use Rattle.pcrlock_update.specs.Update.{updated_text as text_of_update};
 
-use pcrlock_words::pin_line;
+use pcrlock_answer::pin_line;
 use pl_base::Memory;
 use std::alloc::Global;
 

@@ -16,8 +16,8 @@ use crate::building::{define_changes, force_changes};
 use crate::changing::perform_all;
 use crate::lines::{with_made, with_pin};
 use crate::sealing::seal_pin;
+use pcrlock_answer::Answer;
 use pcrlock_line::{Reply, Stop, draw};
-use pcrlock_words::Answer;
 use pl_base::{Entropy, Files, Name};
 use policy_digest::Table;
 use std::alloc::Global;
@@ -173,9 +173,9 @@ fn make_drawn<F: Files, T: Tpm, E: Entropy>(
     requires index { IsIndex index }
     requires table { valid_table table.now ≡ true }
     ensures causes { HasCauses (F.faults files.old, E.faults entropy.old, T.faults tpm.old, 0) (F.faults files.new, E.faults entropy.new, T.faults tpm.new, 0) result }
-    ensures told { (m : Live) → Tells (F.held files.old) (T.stored tpm.old) (E.words entropy.old) (machine m) → T.live tpm.old ≡ Some m.state
-        → IfOk result (λ reply. Gives (F.held files.new) (T.stored tpm.new) (E.words entropy.new) reply (new_line text.items path.now old stands index table.now None m)) }
-    ensures stops { (m : Live) → Tells (F.held files.old) (T.stored tpm.old) (E.words entropy.old) (machine m) → T.live tpm.old ≡ Some m.state
+    ensures told { (m : Live) → Tells (F.held files.old) (T.stored tpm.old) (E.draws entropy.old) (machine m) → T.live tpm.old ≡ Some m.state
+        → IfOk result (λ reply. Gives (F.held files.new) (T.stored tpm.new) (E.draws entropy.new) reply (new_line text.items path.now old stands index table.now None m)) }
+    ensures stops { (m : Live) → Tells (F.held files.old) (T.stored tpm.old) (E.draws entropy.old) (machine m) → T.live tpm.old ≡ Some m.state
         → IfErr result (λ _. StandsAmong (F.held files.new) (T.stored tpm.new) (new_line text.items path.now old stands index table.now None m).stops) }
 {
     match draw(entropy) {
@@ -224,9 +224,9 @@ pub fn make_new_policy<F: Files, T: Tpm, E: Entropy>(
     requires index { IsIndex index }
     requires table { valid_table table.now ≡ true }
     ensures causes { HasCauses (F.faults files.old, E.faults entropy.old, T.faults tpm.old, 0) (F.faults files.new, E.faults entropy.new, T.faults tpm.new, 0) result }
-    ensures told { (m : Live) → Tells (F.held files.old) (T.stored tpm.old) (E.words entropy.old) (machine m) → T.live tpm.old ≡ Some m.state
-        → IfOk result (λ reply. Gives (F.held files.new) (T.stored tpm.new) (E.words entropy.new) reply (new_line text.items path.now old stands index table.now (option_copied pin.entry) m)) }
-    ensures stops { (m : Live) → Tells (F.held files.old) (T.stored tpm.old) (E.words entropy.old) (machine m) → T.live tpm.old ≡ Some m.state
+    ensures told { (m : Live) → Tells (F.held files.old) (T.stored tpm.old) (E.draws entropy.old) (machine m) → T.live tpm.old ≡ Some m.state
+        → IfOk result (λ reply. Gives (F.held files.new) (T.stored tpm.new) (E.draws entropy.new) reply (new_line text.items path.now old stands index table.now (option_copied pin.entry) m)) }
+    ensures stops { (m : Live) → Tells (F.held files.old) (T.stored tpm.old) (E.draws entropy.old) (machine m) → T.live tpm.old ≡ Some m.state
         → IfErr result (λ _. StandsAmong (F.held files.new) (T.stored tpm.new) (new_line text.items path.now old stands index table.now (option_copied pin.entry) m).stops) }
 {
     match pin {

@@ -12,12 +12,12 @@ ghost use Rattle.pcrlock_line.specs.Machine.{Machine, Live, Tells, machine};
 ghost use Rattle.pcrlock_line.specs.Outcome.{Gives};
 ghost use Rattle.pcrlock_line.specs.Running.{Runs, Keeps};
 ghost use Rattle.pcrlock_line.specs.Stopped.{StandsAmong};
-ghost use Rattle.pcrlock_update.specs.PolicyAt.{policy_of};
+ghost use Rattle.pcrlock_deeds.specs.PolicyAt.{policy_of};
 ghost use Rattle.pcrlock_update.specs.RemovePolicy.{has_policy, shows_policy as shows, is_done as is_done_of, is_gone as is_gone_of, without_index, without_pin, removed_text as text_of_removal, removed_line, removal_line, remove_policy_line};
 
-use crate::policy::policy_at;
+use pcrlock_answer::Answer;
+use pcrlock_deeds::policy_at;
 use pcrlock_line::{Reply, Stop, ask, ready};
-use pcrlock_words::Answer;
 use pl_base::{Files, Memory, Name, RemoveError};
 use policy_file::Policy;
 use std::alloc::Global;

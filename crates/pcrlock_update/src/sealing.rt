@@ -9,8 +9,8 @@ ghost use Rattle.pcrlock_update.specs.Sealed.{sealed_in as sealed_by, SealedSo};
 
 use hash_bank::Digest;
 use nv_index::{NvPublic, index_name};
+use pcrlock_answer::Answer;
 use pcrlock_line::{Stop, ask};
-use pcrlock_words::Answer;
 use pl_base::{Name, Small};
 use policy_digest::{pin_policy, policy_authorize_nv};
 use std::alloc::Global;

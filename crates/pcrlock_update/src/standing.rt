@@ -9,7 +9,7 @@ ghost use Rattle.pcrlock_update.specs.Standing.{file_has as file_has_digest, fil
 use crate::building::content;
 use hash_bank::Digest;
 use nv_index::{NvPublic, index_name};
-use pcrlock_words::Answer;
+use pcrlock_answer::Answer;
 use pl_base::{Memory, Small};
 use policy_digest::{Row, Table, Values, pin_policy};
 use policy_file::Policy;

@@ -1,7 +1,7 @@
 use Rattle.std.proofs.Common.{◌≡◌, sym, ap, ◌∙◌}
 use Rattle.std.specs.Prelude.{Some, Ok}
 use Rattle.pcrlock_line.proofs.Composed.{then_stops, stops, on_files}
-use Rattle.pcrlock_update.specs.PolicyAt.{policy_of}
+use Rattle.pcrlock_deeds.specs.PolicyAt.{policy_of}
 use Rattle.pcrlock_update.proofs.Removed.{file_there, told_read, stops_read}
 use Rattle.pcrlock_update.proofs.removing.remove_policy.Goals as goal
 
