@@ -1,42 +1,41 @@
--- Each `unseal` of a run is exact.
-use Rattle.std.proofs.Common.{◌≡◌, ℕ, Bool, true, false, cond, List, [], ◌∷◌, ◌++◌, refl, sym, ap, ◌∙◌, subst}
-use Rattle.std.specs.Prelude.{Option, None, Some, nat_le, Result, Ok, Err}
+-- What holds of each request at a machine that is kept holds of each request of a run; so each `unseal` is exact.
+use Rattle.std.proofs.Common.{◌≡◌, ℕ, Bool, true, false, cond, List, [], ◌∷◌, ◌++◌, sym, subst}
+use Rattle.std.specs.Prelude.{Option, None, Some, IfSome}
 use Rattle.std.specs.List.{Contains}
-use Rattle.std.proofs.lemmas.List.Elements.{Contains-append_left}
-use Rattle.hash_bank.specs.declared.bank.Bank.{Bank}
 use Rattle.hash_bank.specs.HashedString.{HashedString}
-use Rattle.policy_file.specs.declared.token.Literal.{Literal}
+use Rattle.tpm_model.specs.Events.{Clean}
 use Rattle.tpm_model.specs.World.{World, hashed_world}
 use Rattle.tpm_device.specs.Stored.{Stored, Holds, TooLarge, Malformed, BadRule}
+use Rattle.tpm_worlds.proofs.EachUnseal.{safe_before}
+use Rattle.tpm_worlds.proofs.TrailReads.{GrowsAll}
+use Rattle.tpm_worlds.proofs.WholeLists.{clean_before}
 use Rattle.pcrlock_words.specs.declared.request.Request.{Request}
 use Rattle.pcrlock_words.specs.declared.request.Request.TheVariants as requests
 use Rattle.pcrlock_words.specs.Requests.{request_of}
 use Rattle.pcrlock_words.specs.Lines.{words_of}
-use Rattle.pcrlock_line.specs.Machine.{Machine, Live, machine}
-use Rattle.pcrlock_line.specs.Content.{Content, content_of}
-use Rattle.pcrlock_line.specs.Worlds.{IsTied, IsTiedTo, by_state}
-use Rattle.hash_bank.specs.declared.banks.Banks.{Banks}
-use Rattle.pcrlock_words.specs.declared.answer.Answer.{Answer}
-use Rattle.pcrlock_input.specs.Logs.{PlainLogs, logs_of}
-use Rattle.tpm_model.specs.declared.command.Command.{Command}
-use Rattle.tpm_model.specs.declared.parts.Parts.{Parts}
-use Rattle.pcrlock_exec.specs.Input.{commands_at}
-use Rattle.pcrlock_exec.specs.Exec.{exec_strings, exec_world}
-use Rattle.pcrlock_exec.proofs.Kept.{exec_hashed}
-use Rattle.pcrlock_exec.specs.Worlds.{read_world}
-use Rattle.pcrlock_tpm.specs.Boot.{boot_world}
-use Rattle.pcrlock_tpm.specs.Extend.{extend_world}
-use Rattle.pcrlock_seal.specs.EnrollWorld.{enroll_world}
-use Rattle.pcrlock_seal.proofs.Enrolled.{enroll_grows}
-use Rattle.pcrlock_open.specs.Headline.{IsEnrolled, IsSafe, OpensExactly}
+use Rattle.pcrlock_words.specs.ProperRequest.{IsProperRequest}
+use Rattle.pcrlock_words.proofs.Proper.{spelled_proper}
+use Rattle.pcrlock_line.specs.Machine.{Machine, machine}
+use Rattle.pcrlock_line.specs.Outcome.{Outcome, is_stop}
+use Rattle.pcrlock_line.specs.Worlds.{IsTied, IsTiedTo}
+use Rattle.pcrlock_deeds.specs.Acts.{HoldsOn}
+use Rattle.pcrlock_deeds.specs.Kept.{IsOwnKept}
+use Rattle.pcrlock_deeds.proofs.Tying.{own_tie}
+use Rattle.pcrlock_open.specs.Headline.{OpensExactly}
 use Rattle.pcrlock_open.specs.Unseal.{unseal_line}
+use Rattle.pcrlock_open.proofs.Acts.{unseal_world}
 use Rattle.pcrlock_open.proofs.Opens.{opens}
-use Rattle.pcrlock_run.specs.Script.{unseal_outcome, line, can_boot}
-use Rattle.pcrlock_run.specs.Whole.{Scripted, script_in, script_bytes_limit}
+use Rattle.pcrlock_run.specs.Acts.{act_of}
 use Rattle.pcrlock_run.specs.Leaves.{Safe}
-use Rattle.pcrlock_run.specs.Worlds.{booted_world, enrolled_world, command_world, answered_world, line_world, script_world, lines_run, world_as, request_world, spelled_world, run_world}
-use Rattle.pcrlock_run.specs.Headline.{UnsealIsExact, token_in, TokenIsExact, CommandIsExact, LinesAreExact, IsExactAs, RequestIsExact, RunIsExact}
-use Rattle.pcrlock_run.proofs.Kept.{line_kept}
+use Rattle.pcrlock_run.specs.Setting.{Setting, outside}
+use Rattle.pcrlock_run.specs.ScriptText.{script_text}
+use Rattle.pcrlock_run.specs.Script.{line, unseal_outcome}
+use Rattle.pcrlock_run.specs.Whole.{Scripted, script_in, script_setting}
+use Rattle.pcrlock_run.specs.Under.{IsOwnKeptAt, IsUnder, IsUnderPath, RequestUnder, SpelledUnder}
+use Rattle.pcrlock_run.specs.Worlds.{answered_world, command_world, line_world, lines_read, run_world, script_world, spelled_world, world_as}
+use Rattle.pcrlock_run.specs.EachRequest.{LinesHave, OfRequest, RequestHas, RunHas, SpelledHas, Unless, WordsHave}
+use Rattle.pcrlock_run.specs.Headline.{TokenOpensExactly, UnsealIsExact}
+use Rattle.pcrlock_run.proofs.Kept.{line_asks, line_kept, script_grows, script_path}
 
 -- strings that are among safe ones are safe
 pub among : (xs ys : List HashedString) → ((x : HashedString) → Contains xs x → Contains ys x) → Safe ys → Safe xs
@@ -45,113 +44,92 @@ among xs ys inside safe = record {
   nonzero = λ s h. safe.nonzero s (inside s h);
 }
 
--- no string is lost
-abbrev Grows : World → World → Type 0
-Grows w v = (x : HashedString) → Contains w.hashed x → Contains v.hashed x
+-- where the path is that of the policy file, of each proper request under it
+abbrev pub HoldsOf : List ℕ → OfRequest → Type 0
+HoldsOf path P = (setting : Setting) (request : Request) (m : Machine) (w : World) → IsProperRequest request → IsUnderPath path request
+    → Clean (command_world setting request m w) → Safe (command_world setting request m w).hashed → IsOwnKeptAt path m w → P setting request m w
 
-grows_hashed : (w : World) (more : List HashedString) → Grows w (hashed_world more w)
-grows_hashed w more x h = Contains-append_left w.hashed more x h
+module _ (path : List ℕ) (P : OfRequest) (each : HoldsOf path P) where
+  spelled_has : (setting : Setting) (o : Option Request) (m : Machine) (w : World) → IfSome o IsProperRequest → IfSome o (IsUnderPath path)
+      → Clean (answered_world setting o m w) → Safe (answered_world setting o m w).hashed → IsOwnKeptAt path m w → SpelledHas P setting o m w
+  spelled_has setting None m w proper under clean safe kept = tt
+  spelled_has setting (Some request) m w proper under clean safe kept = each setting request m w proper under clean safe kept
 
-grows_state : (kept : Stored) (m : Machine) (w : World) (step : Live → World → World) → ((live : Live) → Grows w (step live w)) → Grows w (by_state kept m w step)
-grows_state (Holds s) m w step g = g (record { files = m.files; state = s; draws = m.draws })
-grows_state (TooLarge size) m w step g = λ x h. h
-grows_state (Malformed place) m w step g = λ x h. h
-grows_state (BadRule rule) m w step g = λ x h. h
+  line_has : (setting : Setting) → setting.policy ≡ Some path → (words : List (List ℕ)) (m : Machine) (w : World)
+      → Clean (line_world setting words m w) → Safe (line_world setting words m w).hashed → IsOwnKeptAt path m w → SpelledHas P setting (request_of words setting.policy) m w
+  unfolding line_world
+  line_has setting same words m w clean safe kept =
+      spelled_has setting (request_of words setting.policy) m w (spelled_proper words setting.policy) (line_asks path setting same words) clean safe kept
 
-grows_if : (b : Bool) (w v : World) → Grows w v → Grows w (cond b v w)
-grows_if true w v g = g
-grows_if false w v g = λ x h. h
+  -- what holds where a line stops, and where it goes on
+  has_then : (test : Bool) (v u : World) (Here Behind : Type 0) → GrowsAll v u → Clean (cond test v u) → Safe (cond test v u).hashed
+      → (Clean v → Safe v.hashed → Here) → (Clean v → Safe v.hashed → Clean u → Safe u.hashed → Behind) → Here × Unless test Behind
+  has_then true v u Here Behind grows clean safe first later = (first clean safe, tt)
+  has_then false v u Here Behind grows clean safe first later =
+      let clean_here : Clean v = clean_before v u grows clean in
+      let safe_here : Safe v.hashed = safe_before v u grows.strings safe in
+      (first clean_here safe_here, later clean_here safe_here clean safe)
 
-grows_enrolled : (key : Option (List ℕ)) (literal : Option ℕ) (bank : Bank) (m : Machine) (w : World) → Grows w (enrolled_world key literal bank m w)
-grows_enrolled key (Some pcr) bank m w = grows_if (nat_le pcr 23) w _ (grows_state m.device m w (enroll_world pcr bank key) (λ live. enroll_grows pcr bank key live w))
-grows_enrolled key None bank m w = λ x h. h
+  lines_have : (setting : Setting) → setting.policy ≡ Some path → (lines : List (List ℕ)) (m : Machine) (w : World)
+      → Clean (script_world setting lines m w) → Safe (script_world setting lines m w).hashed → IsOwnKeptAt path m w → LinesHave P setting lines m w
+  lines_have setting same [] m w clean safe kept = tt
+  lines_have setting same (text ∷ texts) m w clean safe kept =
+      let o : Outcome = line setting (words_of text) m in
+      let v : World = line_world setting (words_of text) m w in
+      has_then (is_stop o.ending) v (script_world setting texts o.after v) (SpelledHas P setting (request_of (words_of text) setting.policy) m w) (LinesHave P setting texts o.after v)
+      (script_grows setting texts o.after v) clean safe
+      (λ c s. line_has setting same (words_of text) m w c s kept)
+      (λ c s d t. lines_have setting same texts o.after v d t (line_kept path (IsOwnKept path) (own_tie path) setting same (words_of text) m w c s kept))
 
-grows_booted : (locality : Option ℕ) (banks : Banks) (logs : Result PlainLogs Answer) (m : Machine) (w : World) → Grows w (booted_world locality banks logs m w)
-grows_booted locality banks (Err answer) m w = λ x h. h
-grows_booted locality banks (Ok logs) m w = grows_state m.device m w (λ (live : Live) (v : World). boot_world locality banks logs live.state v) (λ live x h. h)
+  request_has : (setting : Setting) (o : Option Scripted) (request : Request) (m : Machine) (w : World) → IsProperRequest request → RequestUnder path o request
+      → Clean (world_as setting o request m w) → Safe (world_as setting o request m w).hashed → IsOwnKeptAt path m w → RequestHas P setting o request m w
+  request_has setting None request m w proper under clean safe kept = each setting request m w proper under clean safe kept
+  request_has setting (Some script) request m w proper under clean safe kept =
+      lines_have (script_setting setting script) (script_path path setting script under) (lines_read (script_text m.files script.file)) m w clean safe kept
 
-grows_executed : (commands : List Command) (s : Parts) (w : World) → Grows w (exec_world commands s w)
-grows_executed commands s w = λ x h.
-    subst (λ (strings : List HashedString). Contains strings x) (sym (exec_hashed commands s w)) (Contains-append_left w.hashed (exec_strings commands s) x h)
+  words_have : (setting : Setting) (o : Option Request) (m : Machine) (w : World) → IfSome o IsProperRequest → SpelledUnder path o
+      → Clean (spelled_world setting o m w) → Safe (spelled_world setting o m w).hashed → IsOwnKeptAt path m w → WordsHave P setting o m w
+  words_have setting None m w proper under clean safe kept = tt
+  words_have setting (Some request) m w proper under clean safe kept = request_has setting (script_in request) request m w proper under clean safe kept
 
-grows_read : (read : Result (List Command) Answer) (m : Machine) (w : World) → Grows w (read_world read m w)
-grows_read (Err answer) m w = λ x h. h
-grows_read (Ok commands) m w = grows_state m.device m w (λ (live : Live) (v : World). exec_world commands live.state v) (λ live. grows_executed commands live.state w)
+  pub run_has : (words : List (List ℕ)) (m : Machine) (w : World) → IsUnder words path → Clean (run_world words m w) → Safe (run_world words m w).hashed
+      → IsOwnKeptAt path m w → RunHas P words m w
+  unfolding run_world RunHas IsUnder
+  run_has [] m w under clean safe kept = tt
+  run_has (state ∷ words) m w under clean safe kept =
+      words_have (outside state) (request_of (state ∷ words) None) m w (spelled_proper (state ∷ words) None) under clean safe kept
 
-grows_command : (state : List ℕ) (request : Request) (m : Machine) (w : World) → Grows w (command_world state request m w)
-grows_command state (requests.TpmExtend pcr bytes) m w =
-    grows_if (nat_le pcr 23) w _ (grows_state m.device m w (λ (live : Live) (v : World). extend_world pcr bytes live.state v) (λ live x h. h))
-grows_command state (requests.Enroll token policy key literal bank) m w = grows_enrolled key literal bank m w
-grows_command state (requests.Unseal token policy) m w = grows_hashed w (unseal_outcome state token m).hashed
-grows_command state (requests.Cel firmware user) m w = λ x h. h
-grows_command state (requests.ListComponents folders) m w = λ x h. h
-grows_command state (requests.TpmBoot firmware user locality banks) m w = grows_if (can_boot locality banks) w _ (grows_booted locality banks (logs_of m.files firmware user) m w)
-grows_command state (requests.Log firmware user folders bank) m w = λ x h. h
-grows_command state (requests.Predict firmware user folders location pcr bank joint) m w = λ x h. h
-grows_command state (requests.TpmExec commands) m w = grows_read (commands_at m.files commands) m w
-grows_command state (requests.Script file policy index) m w = λ x h. h
+-- ---- a single `unseal`
 
-grows_answered : (state : List ℕ) (o : Option Request) (m : Machine) (w : World) → Grows w (answered_world state o m w)
-grows_answered state None m w = λ x h. h
-grows_answered state (Some request) m w = grows_command state request m w
+-- what is kept is tied
+tied_on : (path : List ℕ) (kept : Stored) (m : Machine) (w : World) → HoldsOn (IsOwnKept path) kept m w → IsTied kept w
+tied_on path (Holds s) m w k = record { tied = k.own.base; order = k.orderly.objects }
+tied_on path (TooLarge size) m w k = absurd k
+tied_on path (Malformed place) m w k = absurd k
+tied_on path (BadRule rule) m w k = absurd k
 
-grows_line : (state : List ℕ) (words : List (List ℕ)) (policy : List ℕ) (m : Machine) (w : World) → Grows w (line_world state words policy m w)
-unfolding line_world
-grows_line state words policy m w = grows_answered state (request_of words (Some policy)) m w
+pub kept_tied : (path : List ℕ) (m : Machine) (w : World) → IsOwnKeptAt path m w → IsTied m.device w
+kept_tied path m w k = tied_on path m.device m w k
 
-pub grows_script : (state policy : List ℕ) (lines : List (List ℕ)) (m : Machine) (w : World) → Grows w (script_world state policy lines m w)
-grows_script state policy [] m w = λ x h. h
-grows_script state policy (text ∷ texts) m w = λ x h.
-    grows_script state policy texts (line state (words_of text) policy m).after (line_world state (words_of text) policy m w) x (grows_line state (words_of text) policy m w x h)
-
--- a single `unseal`
-pub unseal_exact : (state token : List ℕ) (m : Machine) (w : World) → IsTied m.device w → Safe (hashed_world (unseal_outcome state token m).hashed w).hashed → UnsealIsExact state token m w
+pub token_exact : (state token : List ℕ) (m : Machine) (w : World) → IsTied m.device w → Safe (hashed_world (unseal_outcome state token m).hashed w).hashed → TokenOpensExactly state token m w
 unfolding unseal_outcome
-unseal_exact state token m w t safe = λ live handle literal key is enrolled.
+token_exact state token m w t safe = λ live handle literal key is enrolled.
     let tied : IsTiedTo live.state w = subst (λ (x : Machine). IsTied x.device w) is t in
     let there : Safe (w.hashed ++ (unseal_line state token (machine live)).hashed) = subst (λ (x : Machine). Safe (w.hashed ++ (unseal_line state token x).hashed)) is safe in
     subst (λ (x : Machine). OpensExactly (unseal_line state token x).ending key literal live) (sym is)
     (opens live w state token handle literal key (record { tied = tied.tied; safe = there }) enrolled)
 
-request_alone : (state : List ℕ) (request : Request) (m : Machine) (w : World) → IsTied m.device w → Safe (command_world state request m w).hashed → TokenIsExact state (token_in request) m w
-request_alone state (requests.Unseal token policy) m w t safe = unseal_exact state token m w t safe
-request_alone state (requests.Enroll token policy key literal bank) m w t safe = tt
-request_alone state (requests.TpmExtend pcr bytes) m w t safe = tt
-request_alone state (requests.Cel firmware user) m w t safe = tt
-request_alone state (requests.ListComponents folders) m w t safe = tt
-request_alone state (requests.TpmBoot firmware user locality banks) m w t safe = tt
-request_alone state (requests.Log firmware user folders bank) m w t safe = tt
-request_alone state (requests.Predict firmware user folders location pcr bank joint) m w t safe = tt
-request_alone state (requests.TpmExec commands) m w t safe = tt
-request_alone state (requests.Script file policy index) m w t safe = tt
+-- the world after an `unseal` has its strings, and no more
+pub unseal_safe : (setting : Setting) (token policy : List ℕ) (m : Machine) (w : World) → Safe (command_world setting (requests.Unseal token policy) m w).hashed
+    → Safe (hashed_world (unseal_outcome setting.state token m).hashed w).hashed
+unfolding act_of unseal_outcome
+unseal_safe setting token policy m w safe = subst (λ (v : World). Safe v.hashed) (unseal_world setting.state token m w) safe
 
-command_exact : (state : List ℕ) (o : Option Request) (m : Machine) (w : World) → IsTied m.device w → Safe (answered_world state o m w).hashed → CommandIsExact state o m w
-command_exact state None m w t safe = tt
-command_exact state (Some request) m w t safe = request_alone state request m w t safe
+unseal_exact : (path : List ℕ) → HoldsOf path UnsealIsExact
+unseal_exact path setting (requests.Unseal token policy) m w proper under clean safe kept =
+    token_exact setting.state token m w (kept_tied path m w kept) (unseal_safe setting token policy m w safe)
+unseal_exact path setting other m w proper under clean safe kept = tt
 
-line_exact : (state : List ℕ) (words : List (List ℕ)) (policy : List ℕ) (m : Machine) (w : World) → IsTied m.device w → Safe (line_world state words policy m w).hashed
-    → CommandIsExact state (request_of words (Some policy)) m w
-unfolding line_world
-line_exact state words policy m w t safe = command_exact state (request_of words (Some policy)) m w t safe
-
-lines_exact : (state policy : List ℕ) (lines : List (List ℕ)) (m : Machine) (w : World) → IsTied m.device w → Safe (script_world state policy lines m w).hashed → LinesAreExact state policy lines m w
-lines_exact state policy [] m w t safe = tt
-lines_exact state policy (text ∷ texts) m w t safe =
-    let after : Machine = (line state (words_of text) policy m).after in
-    let world : World = line_world state (words_of text) policy m w in (
-      line_exact state (words_of text) policy m w t (among world.hashed (script_world state policy texts after world).hashed (grows_script state policy texts after world) safe),
-      lines_exact state policy texts after world (line_kept state (words_of text) policy m w t) safe,
-    )
-
-exact_as : (state : List ℕ) (o : Option Scripted) (request : Request) (m : Machine) (w : World) → IsTied m.device w → Safe (world_as state o request m w).hashed → IsExactAs state o request m w
-exact_as state None request m w t safe = request_alone state request m w t safe
-exact_as state (Some script) request m w t safe = lines_exact state script.policy (lines_run (content_of m.files script.file script_bytes_limit)) m w t safe
-
-request_exact : (state : List ℕ) (o : Option Request) (m : Machine) (w : World) → IsTied m.device w → Safe (spelled_world state o m w).hashed → RequestIsExact state o m w
-request_exact state None m w t safe = tt
-request_exact state (Some request) m w t safe = exact_as state (script_in request) request m w t safe
-
-pub run_exact : (words : List (List ℕ)) (m : Machine) (w : World) → IsTied m.device w → Safe (run_world words m w).hashed → RunIsExact words m w
-unfolding run_world RunIsExact
-run_exact [] m w t safe = tt
-run_exact (state ∷ words) m w t safe = request_exact state (request_of (state ∷ words) None) m w t safe
+pub run_exact : (path : List ℕ) (words : List (List ℕ)) (m : Machine) (w : World) → IsUnder words path → Clean (run_world words m w) → Safe (run_world words m w).hashed
+    → IsOwnKeptAt path m w → RunHas UnsealIsExact words m w
+run_exact path words m w under clean safe kept = run_has path UnsealIsExact (unseal_exact path) words m w under clean safe kept

@@ -1,149 +1,120 @@
--- A run leaves the world tied, and each `unseal` of it is exact.
-use Rattle.std.proofs.Common.{◌≡◌, ℕ, Bool, true, false, cond, List, [], ◌∷◌, ◌++◌, refl, sym, ap, ◌∙◌, subst}
-use Rattle.std.specs.Prelude.{Option, None, Some, nat_lt, nat_le, length, codes}
-use Rattle.std.specs.List.{Contains}
-use Rattle.std.specs.Str.Lossy.{utf8_valid_len}
-use Rattle.std.proofs.lemmas.List.Elements.{Contains-append_left}
-use Rattle.hash_bank.specs.declared.bank.Bank.{Bank}
-use Rattle.hash_bank.specs.HashedString.{HashedString}
-use Rattle.tpm_model.specs.World.{World, hashed_world}
-use Rattle.tpm_device.specs.Stored.{Stored, Holds, TooLarge, Malformed, BadRule}
-use Rattle.pcrlock_words.specs.declared.answer.Answer.TheVariants as answers
-use Rattle.pcrlock_words.specs.declared.place.Place.TheVariants.{At}
+-- What each command keeps is kept by a run.
+use Rattle.std.proofs.Common.{◌≡◌, ℕ, Bool, true, false, cond, List, [], ◌∷◌, sym, ap, subst}
+use Rattle.std.specs.Prelude.{Option, None, Some, Result, Ok, Err, IfSome}
+use Rattle.tpm_model.specs.Events.{Clean}
+use Rattle.tpm_model.specs.World.{World}
+use Rattle.tpm_worlds.proofs.EachUnseal.{safe_before}
+use Rattle.tpm_worlds.proofs.TrailReads.{GrowsAll}
+use Rattle.tpm_worlds.proofs.WholeLists.{clean_before, joined}
+use Rattle.pcrlock_answer.specs.declared.answer.Answer.{Answer}
 use Rattle.pcrlock_words.specs.declared.request.Request.{Request}
-use Rattle.pcrlock_words.specs.declared.request.Request.TheVariants as requests
 use Rattle.pcrlock_words.specs.Requests.{request_of}
 use Rattle.pcrlock_words.specs.Lines.{words_of}
-use Rattle.pcrlock_line.specs.Machine.{Machine, Live, machine}
-use Rattle.pcrlock_line.specs.Outcome.{Outcome, refused_line}
-use Rattle.pcrlock_line.specs.Begun.{by_device}
-use Rattle.pcrlock_line.specs.Content as content
-use Rattle.pcrlock_line.specs.Content.{Content, content_of}
-use Rattle.pcrlock_line.specs.Worlds.{IsTied, IsTiedTo, by_state}
-use Rattle.tpm_model.proofs.Ties.{tied_hashed}
-use Rattle.pcrlock_tpm.specs.Extend.{extended_line, tpm_extend_line, extend_world}
-use Rattle.pcrlock_tpm.proofs.Extends.{extend_tied, extend_order, extend_leaves}
-use Rattle.pcrlock_seal.specs.Enroll.{enrolled_line, enroll_line}
-use Rattle.pcrlock_seal.specs.EnrollWorld.{enroll_world}
-use Rattle.pcrlock_seal.proofs.Enrolled.{enroll_tied, enroll_order, enroll_leaves}
-use Rattle.pcrlock_open.specs.Unseal.{unseal_line}
-use Rattle.pcrlock_open.proofs.Ties.{unseal_tied}
-use Rattle.pcrlock_exec.proofs.Kept.{exec_kept}
-use Rattle.pcrlock_run.proofs.Booting.{boot_kept}
-use Rattle.pcrlock_run.specs.Lines.{lines_of, line_count}
-use Rattle.pcrlock_run.specs.Script.{enroll_outcome, unseal_outcome, command_line, answered, line, script_from}
-use Rattle.pcrlock_run.specs.Whole.{alone, script_of_text, script_of_bytes, script_of_content, Scripted, script_in, run_as, run_request, run_spelled, run_line, script_bytes_limit, script_lines_limit}
-use Rattle.pcrlock_run.specs.Worlds.{enrolled_world, command_world, answered_world, line_world, script_world, text_lines, lines_run, world_as, request_world, spelled_world, run_world}
+use Rattle.pcrlock_words.specs.ProperRequest.{IsProperRequest}
+use Rattle.pcrlock_words.proofs.Proper.{spelled_proper}
+use Rattle.pcrlock_line.specs.Machine.{Live, Machine}
+use Rattle.pcrlock_line.specs.Outcome.{Outcome, is_stop}
+use Rattle.pcrlock_deeds.specs.Acts.{HoldsAt}
+use Rattle.pcrlock_deeds.specs.Deed.{keeps}
+use Rattle.pcrlock_deeds.specs.Kept.{LeavesFiled}
+use Rattle.pcrlock_deeds.specs.Sound.{IsTie}
+use Rattle.pcrlock_deeds.proofs.Growing.{grows_filing}
+use Rattle.pcrlock_run.specs.Leaves.{Safe}
+use Rattle.pcrlock_run.specs.Lines.{lines_of}
+use Rattle.pcrlock_run.specs.Setting.{Setting, outside}
+use Rattle.pcrlock_run.specs.ScriptText.{script_text}
+use Rattle.pcrlock_run.specs.Status.{status_of}
+use Rattle.pcrlock_run.specs.Script.{Whole, marked_before, stopped_at, answered, line, script_from}
+use Rattle.pcrlock_run.specs.Whole.{script_read, Scripted, script_in, script_setting, run_as, run_spelled, run_line}
+use Rattle.pcrlock_run.specs.Under.{IsUnder, IsUnderPath, RequestUnder, SpelledUnder}
+use Rattle.pcrlock_run.specs.Worlds.{answered_world, line_world, script_world, lines_read, world_as, spelled_world, run_world}
+use Rattle.pcrlock_run.proofs.Acts.{command_grows, command_kept}
+use Rattle.pcrlock_run.proofs.NamesPolicy.{line_under}
 
--- a world with more strings
-pub hashed_tied : (kept : Stored) (w : World) (more : List HashedString) → IsTied kept w → IsTied kept (hashed_world more w)
-hashed_tied (Holds s) w more t = record { tied = tied_hashed s w more t.tied; order = t.order }
-hashed_tied (TooLarge size) w more t = absurd t
-hashed_tied (Malformed place) w more t = absurd t
-hashed_tied (BadRule rule) w more t = absurd t
+-- ---- the world grows
 
-extend_kept : (kept : Stored) (state : List ℕ) (pcr : ℕ) (bytes : List ℕ) (m : Machine) (w : World) → IsTied kept w
-    → IsTied (by_device kept state m (extended_line pcr bytes)).after.device (by_state kept m w (λ (live : Live) (v : World). extend_world pcr bytes live.state v))
-extend_kept (Holds s) state pcr bytes m w t =
-    let live : Live = record { files = m.files; state = s; draws = m.draws } in
-    subst (λ (d : Stored). IsTied d (extend_world pcr bytes s w)) (sym (extend_leaves live pcr bytes))
-    (record { tied = extend_tied s w pcr bytes t.tied; order = extend_order s pcr bytes t.order })
-extend_kept (TooLarge size) state pcr bytes m w t = absurd t
-extend_kept (Malformed place) state pcr bytes m w t = absurd t
-extend_kept (BadRule rule) state pcr bytes m w t = absurd t
+answered_grows : (setting : Setting) (o : Option Request) (m : Machine) (w : World) → GrowsAll w (answered_world setting o m w)
+answered_grows setting None m w = grows_filing keeps w
+answered_grows setting (Some request) m w = command_grows setting request m w
 
-enroll_kept : (kept : Stored) (state token : List ℕ) (pcr : ℕ) (bank : Bank) (key : Option (List ℕ)) (m : Machine) (w : World) → IsTied kept w
-    → IsTied (by_device kept state m (enrolled_line token pcr bank key)).after.device (by_state kept m w (enroll_world pcr bank key))
-enroll_kept (Holds s) state token pcr bank key m w t =
-    let live : Live = record { files = m.files; state = s; draws = m.draws } in
-    subst (λ (d : Stored). IsTied d (enroll_world pcr bank key live w)) (sym (enroll_leaves token pcr bank key live))
-    (record { tied = enroll_tied pcr bank key live w t.order t.tied; order = enroll_order pcr bank key live t.order })
-enroll_kept (TooLarge size) state token pcr bank key m w t = absurd t
-enroll_kept (Malformed place) state token pcr bank key m w t = absurd t
-enroll_kept (BadRule rule) state token pcr bank key m w t = absurd t
+pub line_grows : (setting : Setting) (words : List (List ℕ)) (m : Machine) (w : World) → GrowsAll w (line_world setting words m w)
+unfolding line_world
+line_grows setting words m w = answered_grows setting (request_of words setting.policy) m w
 
--- the PCR's number has to be one
-if_pcr : (small : Bool) (o : Outcome) (v w : World) (m : Machine) → IsTied o.after.device v → IsTied m.device w
-    → IsTied (cond small o (refused_line answers.BadWords m)).after.device (cond small v w)
-if_pcr true o v w m t u = t
-if_pcr false o v w m t u = u
+-- where a line stops, its own world is the last one
+grows_then : (test : Bool) (w v u : World) → GrowsAll w v → GrowsAll v u → GrowsAll w (cond test v u)
+grows_then true w v u first later = first
+grows_then false w v u first later = joined w v u first later
 
-enrolled_kept : (state token : List ℕ) (key : Option (List ℕ)) (literal : Option ℕ) (bank : Bank) (m : Machine) (w : World) → IsTied m.device w
-    → IsTied (enroll_outcome state token key literal bank m).after.device (enrolled_world key literal bank m w)
-unfolding enroll_outcome
-enrolled_kept state token key (Some pcr) bank m w t =
-    if_pcr (nat_le pcr 23) (enroll_line state token pcr bank key m) _ w m (enroll_kept m.device state token pcr bank key m w t) t
-enrolled_kept state token key None bank m w t = t
+pub script_grows : (setting : Setting) (lines : List (List ℕ)) (m : Machine) (w : World) → GrowsAll w (script_world setting lines m w)
+script_grows setting [] m w = grows_filing keeps w
+script_grows setting (text ∷ texts) m w =
+    let o : Outcome = line setting (words_of text) m in
+    let v : World = line_world setting (words_of text) m w in
+    grows_then (is_stop o.ending) w v (script_world setting texts o.after v) (line_grows setting (words_of text) m w) (script_grows setting texts o.after v)
 
-unsealed_kept : (state token : List ℕ) (m : Machine) (w : World) → IsTied m.device w
-    → IsTied (unseal_outcome state token m).after.device (hashed_world (unseal_outcome state token m).hashed w)
-unfolding unseal_outcome
-unsealed_kept state token m w t = hashed_tied (unseal_line state token m).after.device w (unseal_line state token m).hashed (unseal_tied state token m w t)
+-- ---- the request of each line is proper, and stands under the script's policy path
 
-pub command_kept : (state : List ℕ) (request : Request) (m : Machine) (w : World) → IsTied m.device w
-    → IsTied (command_line state request m).after.device (command_world state request m w)
-unfolding command_line
-command_kept state (requests.TpmExtend pcr bytes) m w t =
-    if_pcr (nat_le pcr 23) (tpm_extend_line state pcr bytes m) _ w m (extend_kept m.device state pcr bytes m w t) t
-command_kept state (requests.Enroll token policy key literal bank) m w t = enrolled_kept state token key literal bank m w t
-command_kept state (requests.Unseal token policy) m w t = unsealed_kept state token m w t
-command_kept state (requests.Cel firmware user) m w t = t
-command_kept state (requests.ListComponents folders) m w t = t
-command_kept state (requests.TpmBoot firmware user locality banks) m w t = boot_kept state firmware user locality banks m w t
-command_kept state (requests.Log firmware user folders bank) m w t = t
-command_kept state (requests.Predict firmware user folders location pcr bank joint) m w t = t
-command_kept state (requests.TpmExec commands) m w t = exec_kept state commands m w t
-command_kept state (requests.Script file policy index) m w t = t
+pub line_asks : (path : List ℕ) (setting : Setting) → setting.policy ≡ Some path → (words : List (List ℕ)) → IfSome (request_of words setting.policy) (IsUnderPath path)
+line_asks path setting same words = subst (λ (o : Option (List ℕ)). IfSome (request_of words o) (IsUnderPath path)) (sym same) (line_under path words)
 
-answered_kept : (state : List ℕ) (o : Option Request) (m : Machine) (w : World) → IsTied m.device w → IsTied (answered state o m).after.device (answered_world state o m w)
-answered_kept state None m w t = t
-answered_kept state (Some request) m w t = command_kept state request m w t
+pub script_path : (path : List ℕ) (setting : Setting) (script : Scripted) → script.policy ≡ path → (script_setting setting script).policy ≡ Some path
+script_path path setting script same = ap Some same
 
-pub line_kept : (state : List ℕ) (words : List (List ℕ)) (policy : List ℕ) (m : Machine) (w : World) → IsTied m.device w
-    → IsTied (line state words policy m).after.device (line_world state words policy m w)
-unfolding line line_world
-line_kept state words policy m w t = answered_kept state (request_of words (Some policy)) m w t
+-- ---- what each command keeps
 
-script_kept : (state policy : List ℕ) (lines : List (List ℕ)) (status : ℕ) (m : Machine) (w : World) → IsTied m.device w
-    → IsTied (script_from state policy lines status m).after.device (script_world state policy lines m w)
-script_kept state policy [] status m w t = t
-script_kept state policy (text ∷ texts) status m w t =
-    script_kept state policy texts _ (line state (words_of text) policy m).after (line_world state (words_of text) policy m w) (line_kept state (words_of text) policy m w t)
+module _ (path : List ℕ) (T : Live → World → Type 0) (laws : IsTie T (LeavesFiled path)) where
+  answered_kept : (setting : Setting) (o : Option Request) (m : Machine) (w : World) → IfSome o IsProperRequest → IfSome o (IsUnderPath path)
+      → Clean (answered_world setting o m w) → Safe (answered_world setting o m w).hashed → HoldsAt T m w → HoldsAt T (answered setting o m).after (answered_world setting o m w)
+  answered_kept setting None m w proper under clean safe holds = holds
+  answered_kept setting (Some request) m w proper under clean safe holds = command_kept path T laws setting request m w proper under clean safe holds
 
-text_kept : (state policy text : List ℕ) (many : Bool) (m : Machine) (w : World) → IsTied m.device w
-    → IsTied (cond many (alone (refused_line (answers.Limit (codes "lines") 65537) m)) (script_from state policy (lines_of text) 0 m)).after.device
-    (script_world state policy (cond many [] (lines_of text)) m w)
-text_kept state policy text true m w t = t
-text_kept state policy text false m w t = script_kept state policy (lines_of text) 0 m w t
+  pub line_kept : (setting : Setting) → setting.policy ≡ Some path → (words : List (List ℕ)) (m : Machine) (w : World)
+      → Clean (line_world setting words m w) → Safe (line_world setting words m w).hashed → HoldsAt T m w → HoldsAt T (line setting words m).after (line_world setting words m w)
+  unfolding line line_world
+  line_kept setting same words m w clean safe holds =
+      answered_kept setting (request_of words setting.policy) m w (spelled_proper words setting.policy) (line_asks path setting same words) clean safe holds
 
-bytes_kept : (state file policy bytes : List ℕ) (bad : Bool) (m : Machine) (w : World) → IsTied m.device w
-    → IsTied (cond bad (alone (refused_line (answers.Malformed file (At (utf8_valid_len bytes))) m)) (script_of_text state policy bytes m)).after.device
-    (script_world state policy (cond bad [] (text_lines bytes)) m w)
-bytes_kept state file policy bytes true m w t = t
-bytes_kept state file policy bytes false m w t = text_kept state policy bytes (nat_lt script_lines_limit (line_count bytes)) m w t
+  -- what a line leaves, where it stops, else what those behind it leave
+  then_kept : (test : Bool) (m : Machine) (o : Outcome) (rest : Whole) (v u : World) → GrowsAll v u → Clean (cond test v u) → Safe (cond test v u).hashed
+      → (Clean v → Safe v.hashed → HoldsAt T o.after v) → (Clean u → Safe u.hashed → HoldsAt T o.after v → HoldsAt T rest.after u)
+      → HoldsAt T (cond test (stopped_at m o) (marked_before m o rest)).after (cond test v u)
+  then_kept true m o rest v u grows clean safe first later = first clean safe
+  then_kept false m o rest v u grows clean safe first later = later clean safe (first (clean_before v u grows clean) (safe_before v u grows.strings safe))
 
-content_kept : (state file policy : List ℕ) (found : Content) (m : Machine) (w : World) → IsTied m.device w
-    → IsTied (script_of_content state file policy found m).after.device (script_world state policy (lines_run found) m w)
-content_kept state file policy content.Missing m w t = t
-content_kept state file policy (content.TooLarge size) m w t = t
-content_kept state file policy (content.Bytes bytes) m w t = bytes_kept state file policy bytes (nat_lt (utf8_valid_len bytes) (length bytes)) m w t
+  script_kept : (setting : Setting) → setting.policy ≡ Some path → (lines : List (List ℕ)) (status : ℕ) (m : Machine) (w : World)
+      → Clean (script_world setting lines m w) → Safe (script_world setting lines m w).hashed → HoldsAt T m w
+      → HoldsAt T (script_from setting lines status m).after (script_world setting lines m w)
+  script_kept setting same [] status m w clean safe holds = holds
+  script_kept setting same (text ∷ texts) status m w clean safe holds =
+      let o : Outcome = line setting (words_of text) m in
+      let v : World = line_world setting (words_of text) m w in
+      then_kept (is_stop o.ending) m o (script_from setting texts (status_of o.ending) o.after) v (script_world setting texts o.after v)
+      (script_grows setting texts o.after v) clean safe
+      (λ c s. line_kept setting same (words_of text) m w c s holds)
+      (λ c s kept. script_kept setting same texts (status_of o.ending) o.after v c s kept)
 
-as_kept : (state : List ℕ) (o : Option Scripted) (request : Request) (m : Machine) (w : World) → IsTied m.device w
-    → IsTied (run_as state o request m).after.device (world_as state o request m w)
-as_kept state None request m w t = command_kept state request m w t
-as_kept state (Some script) request m w t = content_kept state script.file script.policy (content_of m.files script.file script_bytes_limit) m w t
+  read_kept : (setting : Setting) → setting.policy ≡ Some path → (read : Result (List ℕ) Answer) (m : Machine) (w : World)
+      → Clean (script_world setting (lines_read read) m w) → Safe (script_world setting (lines_read read) m w).hashed → HoldsAt T m w
+      → HoldsAt T (script_read setting read m).after (script_world setting (lines_read read) m w)
+  read_kept setting same (Err answer) m w clean safe holds = holds
+  read_kept setting same (Ok text) m w clean safe holds = script_kept setting same (lines_of text) 0 m w clean safe holds
 
-request_kept : (state : List ℕ) (request : Request) (m : Machine) (w : World) → IsTied m.device w
-    → IsTied (run_request state request m).after.device (request_world state request m w)
-request_kept state request m w t = as_kept state (script_in request) request m w t
+  as_kept : (setting : Setting) (o : Option Scripted) (request : Request) (m : Machine) (w : World) → IsProperRequest request → RequestUnder path o request
+      → Clean (world_as setting o request m w) → Safe (world_as setting o request m w).hashed → HoldsAt T m w → HoldsAt T (run_as setting o request m).after (world_as setting o request m w)
+  as_kept setting None request m w proper under clean safe holds = command_kept path T laws setting request m w proper under clean safe holds
+  as_kept setting (Some script) request m w proper under clean safe holds =
+      read_kept (script_setting setting script) (script_path path setting script under) (script_text m.files script.file) m w clean safe holds
 
-spelled_kept : (state : List ℕ) (o : Option Request) (m : Machine) (w : World) → IsTied m.device w
-    → IsTied (run_spelled state o m).after.device (spelled_world state o m w)
-spelled_kept state None m w t = t
-spelled_kept state (Some request) m w t = request_kept state request m w t
+  spelled_kept : (setting : Setting) (o : Option Request) (m : Machine) (w : World) → IfSome o IsProperRequest → SpelledUnder path o
+      → Clean (spelled_world setting o m w) → Safe (spelled_world setting o m w).hashed → HoldsAt T m w → HoldsAt T (run_spelled setting o m).after (spelled_world setting o m w)
+  spelled_kept setting None m w proper under clean safe holds = holds
+  spelled_kept setting (Some request) m w proper under clean safe holds = as_kept setting (script_in request) request m w proper under clean safe holds
 
--- the world after a run is tied to the state that it leaves
-pub run_kept : (words : List (List ℕ)) (m : Machine) (w : World) → IsTied m.device w → IsTied (run_line words m).after.device (run_world words m w)
-unfolding run_line run_world
-run_kept [] m w t = t
-run_kept (state ∷ words) m w t = spelled_kept state (request_of (state ∷ words) None) m w t
+  -- so what is kept holds of what a run leaves
+  pub run_kept : (words : List (List ℕ)) (m : Machine) (w : World) → IsUnder words path → Clean (run_world words m w) → Safe (run_world words m w).hashed
+      → HoldsAt T m w → HoldsAt T (run_line words m).after (run_world words m w)
+  unfolding run_line run_world IsUnder
+  run_kept [] m w under clean safe holds = holds
+  run_kept (state ∷ words) m w under clean safe holds =
+      spelled_kept (outside state) (request_of (state ∷ words) None) m w (spelled_proper (state ∷ words) None) under clean safe holds

@@ -5,10 +5,10 @@ pub mod Folds
 pub mod Parts
 pub mod Commands
 pub mod Texts
-pub mod Booting
+pub mod Acts
+pub mod NamesPolicy
 pub mod Kept
 pub mod Exact
-pub mod Lasts
 pub mod Firsts
 pub mod Premise
 pub mod Printed

@@ -12,28 +12,30 @@ use Rattle.tpm_model.specs.declared.parts.Parts.{Parts}
 use Rattle.tpm_model.specs.Binding.{literal_policy}
 use Rattle.tpm_model.specs.Sessions.{object_at}
 use Rattle.tpm_model.specs.World.{World, hashed_world}
-use Rattle.pcrlock_words.specs.declared.answer.Answer.TheVariants as said
+use Rattle.pcrlock_answer.specs.declared.answer.Answer.TheVariants as said
 use Rattle.pcrlock_words.specs.declared.request.Request.{Request}
 use Rattle.pcrlock_words.specs.declared.request.Request.TheVariants as requests
 use Rattle.pcrlock_words.specs.Requests.{request_of}
-use Rattle.pcrlock_words.specs.Texts.{key_text}
+use Rattle.pcrlock_answer.specs.Texts.{key_text}
 use Rattle.pcrlock_line.specs.Machine.{Machine, Live, machine}
-use Rattle.pcrlock_line.specs.Outcome.{Ending, Fine, Refused}
+use Rattle.pcrlock_line.specs.Outcome.{Ending, Fine, Refused, Stops}
 use Rattle.pcrlock_line.specs.Worlds.{IsTied, IsTiedTo}
 use Rattle.pcrlock_open.specs.Unseal.{unseal_line, content_line, token_line, literal_ending, value_ending, object_ending, present_value}
 use Rattle.pcrlock_open.specs.Headline.{IsEnrolled, OpensExactly}
+use Rattle.pcrlock_run.specs.Setting.{Setting, outside}
 use Rattle.pcrlock_run.specs.Script.{unseal_outcome, command_line}
 use Rattle.pcrlock_run.specs.Status.{status_of, out_of}
 use Rattle.pcrlock_run.specs.Whole.{run_spelled, run_line}
 use Rattle.pcrlock_run.specs.Leaves.{Safe}
 use Rattle.pcrlock_run.specs.Worlds.{spelled_world, run_world}
-use Rattle.pcrlock_run.specs.Headline.{PrintsExactly, token_spelled, CallIsExact, UnsealIsExact}
-use Rattle.pcrlock_run.proofs.Exact.{unseal_exact}
+use Rattle.pcrlock_run.specs.Headline.{PrintsExactly, token_spelled, CallIsExact, TokenOpensExactly}
+use Rattle.pcrlock_run.proofs.Exact.{token_exact, unseal_safe}
 
 -- nothing is printed where the status isn't 0
 unprinted : (e : Ending) → status_of e ≢ 0 → out_of e ≡ []
 unprinted (Fine text) other = absurd (other refl)
 unprinted (Refused answer) other = refl
+unprinted (Stops stop) other = refl
 
 -- with status 0 an object that is there gives its bytes
 object_printed : (b : Bool) (key secret policy other : List ℕ) → secret ≡ key
@@ -64,7 +66,7 @@ ends_by_value : (live : Live) (w : World) (state path : List ℕ) (handle : ℕ)
     → (unseal_line state path (machine live)).ending ≡ value_ending (present_value literal live.state) literal handle live.state
 ends_by_value live w state path handle literal key h =
     ap (λ c. (content_line state path c (machine live)).ending) h.written
-    ∙ ap (λ r. (token_line state path r (machine live)).ending) (token_again (token.Literal handle literal) h.valid tt)
+    ∙ ap (λ r. (token_line state path r (machine live)).ending) (token_again (token.Literal handle literal) h.valid)
     ∙ by_value literal handle live.state h.slot h.number
 
 -- so with status 0 an `unseal` has printed the object's key
@@ -92,27 +94,20 @@ unseal_call : (state path : List ℕ) (m : Machine) (w : World) (number : ℕ) (
 unfolding unseal_outcome
 unseal_call state path m w number u v t safe status out = λ live handle literal key is enrolled.
     let tied : IsTiedTo live.state w = subst (λ (x : Machine). IsTied x.device w) is t in
-    let exact : UnsealIsExact state path m w = unseal_exact state path m w t safe in
+    let exact : TokenOpensExactly state path m w = token_exact state path m w t safe in
     printed number u v (unseal_line state path m).ending key literal live status out (exact live handle literal key is enrolled)
     (subst (λ (x : Machine). status_of (unseal_line state path x).ending ≡ 0 → (unseal_line state path x).ending ≡ Fine (key_text key)) (sym is)
     (unseal_printed live w state path handle literal key tied enrolled))
 
 -- words that spell a request, or none
-spelled_call : (state : List ℕ) (o : Option Request) (m : Machine) (w : World) (number : ℕ) (u v : Option (List ℕ)) → IsTied m.device w → Safe (spelled_world state o m w).hashed
-    → number ≡ (run_spelled state o m).status → ((before : List ℕ) → u ≡ Some before → v ≡ Some (before ++ (run_spelled state o m).out))
+spelled_call : (setting : Setting) (o : Option Request) (m : Machine) (w : World) (number : ℕ) (u v : Option (List ℕ)) → IsTied m.device w → Safe (spelled_world setting o m w).hashed
+    → number ≡ (run_spelled setting o m).status → ((before : List ℕ) → u ≡ Some before → v ≡ Some (before ++ (run_spelled setting o m).out))
     → CallIsExact (token_spelled o) m w number u v
 unfolding command_line
-spelled_call state None m w number u v t safe status out = tt
-spelled_call state (Some (requests.Unseal path policy)) m w number u v t safe status out = unseal_call state path m w number u v t safe status out
-spelled_call state (Some (requests.Enroll path policy key literal bank)) m w number u v t safe status out = tt
-spelled_call state (Some (requests.TpmExtend pcr bytes)) m w number u v t safe status out = tt
-spelled_call state (Some (requests.Cel firmware user)) m w number u v t safe status out = tt
-spelled_call state (Some (requests.ListComponents folders)) m w number u v t safe status out = tt
-spelled_call state (Some (requests.TpmBoot firmware user locality banks)) m w number u v t safe status out = tt
-spelled_call state (Some (requests.Log firmware user folders bank)) m w number u v t safe status out = tt
-spelled_call state (Some (requests.Predict firmware user folders location pcr bank joint)) m w number u v t safe status out = tt
-spelled_call state (Some (requests.TpmExec commands)) m w number u v t safe status out = tt
-spelled_call state (Some (requests.Script file policy index)) m w number u v t safe status out = tt
+spelled_call setting None m w number u v t safe status out = tt
+spelled_call setting (Some (requests.Unseal path policy)) m w number u v t safe status out =
+    unseal_call setting.state path m w number u v t (unseal_safe setting path policy m w safe) status out
+spelled_call setting (Some other) m w number u v t safe status out = tt
 
 -- the whole call
 pub run_call : (words : List (List ℕ)) (m : Machine) (w : World) (number : ℕ) (u v : Option (List ℕ)) → IsTied m.device w → Safe (run_world words m w).hashed
@@ -120,4 +115,4 @@ pub run_call : (words : List (List ℕ)) (m : Machine) (w : World) (number : ℕ
     → CallIsExact (token_spelled (request_of words None)) m w number u v
 unfolding run_line run_world request_of
 run_call [] m w number u v t safe status out = tt
-run_call (state ∷ words) m w number u v t safe status out = spelled_call state (request_of (state ∷ words) None) m w number u v t safe status out
+run_call (state ∷ words) m w number u v t safe status out = spelled_call (outside state) (request_of (state ∷ words) None) m w number u v t safe status out

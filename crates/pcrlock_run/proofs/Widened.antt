@@ -1,5 +1,5 @@
 -- The causes of a step that uses some of the objects are causes beside the others.
-use Rattle.std.proofs.Common.{◌≡◌, ◌⊎◌, ℕ, ◌+◌, ◌-◌, ◌^◌, ◌≤◌, min, inl, inr, sym, ◌∙◌, subst, arith}
+use Rattle.std.proofs.Common.{◌≡◌, ◌⊎◌, ℕ, inl, inr, sym, ◌∙◌, subst, arith}
 use Rattle.std.specs.Prelude.{Result, Ok, Err}
 use Rattle.pl_base.specs.Faults.{Rose}
 use Rattle.pcrlock_line.specs.declared.stop.Stop.{Stop}

@@ -1,24 +1,20 @@
 -- The headline, for keys that are sealed to one value of one PCR: `unseal` prints the key of an object of
 -- the world exactly where the PCR holds the value that it was sealed to.
-use Rattle.std.specs.Prelude.{◌≡◌, ◌≢◌, ◌↔◌, ℕ, List, [], ◌∷◌, ◌++◌, Option, None, Some}
+use Rattle.std.specs.Prelude.{◌≡◌, ◌≢◌, ◌↔◌, ℕ, List, ◌++◌, Option, None, Some}
 use Rattle.policy_file.specs.declared.token.Literal.{Literal}
 use Rattle.tpm_model.specs.World.{World}
+use Rattle.pcrlock_answer.specs.Texts.{key_text}
 use Rattle.pcrlock_words.specs.declared.request.Request.{Request}
 use Rattle.pcrlock_words.specs.declared.request.Request.TheVariants as requests
-use Rattle.pcrlock_words.specs.Requests.{request_of}
-use Rattle.pcrlock_words.specs.Lines.{words_of}
-use Rattle.pcrlock_words.specs.Texts.{key_text}
 use Rattle.pcrlock_line.specs.Machine.{Machine, Live, machine}
-use Rattle.pcrlock_line.specs.Content.{content_of}
 use Rattle.pcrlock_open.specs.Headline.{IsEnrolled, OpensExactly}
 use Rattle.pcrlock_open.specs.Unseal.{present_value}
-use Rattle.pcrlock_run.specs.Script.{unseal_outcome, line}
-use Rattle.pcrlock_run.specs.Whole.{Scripted, script_in, script_bytes_limit}
-use Rattle.pcrlock_run.specs.Worlds.{line_world, lines_run}
+use Rattle.pcrlock_run.specs.Setting.{Setting}
+use Rattle.pcrlock_run.specs.Script.{unseal_outcome}
 
 -- for each object of the world whose token stands at the path, while a session can be started
-abbrev pub UnsealIsExact : List ℕ → List ℕ → Machine → World → Type 0
-UnsealIsExact state token m w =
+abbrev pub TokenOpensExactly : List ℕ → List ℕ → Machine → World → Type 0
+TokenOpensExactly state token m w =
     (live : Live) (handle : ℕ) (literal : Literal) (key : List ℕ) → m ≡ machine live → IsEnrolled live w token handle literal key
     → OpensExactly (unseal_outcome state token m).ending key literal live
 
@@ -30,33 +26,11 @@ token_in _ = None
 -- where a token is opened
 abbrev pub TokenIsExact : List ℕ → Option (List ℕ) → Machine → World → Type 0
 TokenIsExact state None m w = Unit {0}
-TokenIsExact state (Some token) m w = UnsealIsExact state token m w
+TokenIsExact state (Some token) m w = TokenOpensExactly state token m w
 
--- for words that spell a request, or none
-abbrev pub CommandIsExact : List ℕ → Option Request → Machine → World → Type 0
-CommandIsExact state None m w = Unit {0}
-CommandIsExact state (Some request) m w = TokenIsExact state (token_in request) m w
-
--- for each line of a script, at the machine and the world that the lines before it leave
-abbrev pub LinesAreExact : List ℕ → List ℕ → List (List ℕ) → Machine → World → Type 0
-LinesAreExact state policy [] m w = Unit {0}
-LinesAreExact state policy (text ∷ texts) m w =
-    CommandIsExact state (request_of (words_of text) (Some policy)) m w
-    × LinesAreExact state policy texts (line state (words_of text) policy m).after (line_world state (words_of text) policy m w)
-
--- for a request that runs this script, or none
-abbrev pub IsExactAs : List ℕ → Option Scripted → Request → Machine → World → Type 0
-IsExactAs state None request m w = TokenIsExact state (token_in request) m w
-IsExactAs state (Some script) request m w = LinesAreExact state script.policy (lines_run (content_of m.files script.file script_bytes_limit)) m w
-
-abbrev pub RequestIsExact : List ℕ → Option Request → Machine → World → Type 0
-RequestIsExact state None m w = Unit {0}
-RequestIsExact state (Some request) m w = IsExactAs state (script_in request) request m w
-
--- for a whole run
-unfoldable pub RunIsExact : List (List ℕ) → Machine → World → Type 0
-RunIsExact [] m w = Unit {0}
-RunIsExact (state ∷ words) m w = RequestIsExact state (request_of (state ∷ words) None) m w
+-- a request that opens a token opens it exactly
+abbrev pub UnsealIsExact : Setting → Request → Machine → World → Type 0
+UnsealIsExact setting request m w = TokenIsExact setting.state (token_in request) m w
 
 -- status 0 exactly where the PCR holds the literal's value; the key's line is printed then, and else nothing
 pub record PrintsExactly (status : ℕ) (out_before out_now : Option (List ℕ)) (key : List ℕ) (literal : Literal) (m : Live) : Type 0 where

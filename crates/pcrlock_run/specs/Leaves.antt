@@ -5,7 +5,7 @@ use Rattle.pl_base.specs.FileMap.{FileMap}
 use Rattle.hash_bank.specs.HashedString.{HashedString, NoClash}
 use Rattle.tpm_device.specs.Stored.{Stored}
 use Rattle.pcrlock_words.specs.declared.request.Request.{Request}
-use Rattle.pcrlock_line.specs.Machine.{Machine, Tells}
+use Rattle.pcrlock_line.specs.Machine.{Tells}
 use Rattle.pcrlock_run.specs.Says.{Says}
 use Rattle.pcrlock_run.specs.Script.{Whole}
 use Rattle.pcrlock_run.specs.Whole.{script_in}

@@ -1,8 +1,13 @@
 pub mod Status
 pub mod Lines
 pub mod Says
+pub mod Setting
+pub mod ScriptText
 pub mod Script
 pub mod Whole
 pub mod Leaves
+pub mod Acts
 pub mod Worlds
+pub mod Under
+pub mod EachRequest
 pub mod Headline

@@ -4,9 +4,10 @@
 #![tactic(auto)]
 
 mod command;
+mod file;
 mod next;
-mod printing;
 mod script;
+mod setting;
 mod show;
 mod status;
 mod top;

@@ -7,9 +7,11 @@ ghost use Rattle.pcrlock_run.specs.Status.{number_of};
 ghost use Rattle.pcrlock_run.specs.Lines.{lines_among, lines_of};
 ghost use Rattle.pcrlock_run.specs.Script.{line as line_outcome, marked, script_from, script as whole_script};
 ghost use Rattle.pcrlock_run.specs.Leaves.{Safe, Leaves};
+ghost use Rattle.pcrlock_run.specs.Setting.{setting_of};
 
 use crate::command::line;
 use crate::next::{is_passed_over, next_line};
+use crate::setting::Setting;
 use crate::show::show_marked;
 use crate::status::Status;
 use pcrlock_line::Stop;
@@ -21,9 +23,8 @@ use tpm_device::Tpm;
 /// Runs a line of these words, and writes what it says and its mark.
 fn marked_line<F: Files, T: Tpm, E: Entropy, O: Sink, R: Sink>(
     alloc: Global,
-    state: &Name,
+    setting: &Setting<'_>,
     words: &[Name],
-    policy: &Name,
     files: &mut F,
     tpm: &mut T,
     entropy: &mut E,
@@ -31,12 +32,12 @@ fn marked_line<F: Files, T: Tpm, E: Entropy, O: Sink, R: Sink>(
     err: &mut R,
 ) -> Result<Status, Stop>
     ensures causes { HasCauses (F.faults files.old, E.faults entropy.old, T.faults tpm.old, O.faults out.old) (F.faults files.new, E.faults entropy.new, T.faults tpm.new, O.faults out.new) result }
-    ensures told { (m : Machine) → Tells (F.held files.old) (T.stored tpm.old) (E.words entropy.old) m → Safe (marked m (line_outcome state.now words.now policy.now m)).hashed
-        → IfOk result (λ status. Leaves (F.held files.new) (T.stored tpm.new) (E.words entropy.new) (O.written out.old) (O.written out.new) (R.faults err.old) (R.written err.old) (R.faults err.new) (R.written err.new) (number_of status) (marked m (line_outcome state.now words.now policy.now m))) }
-    ensures stops { (m : Machine) → Tells (F.held files.old) (T.stored tpm.old) (E.words entropy.old) m → Safe (marked m (line_outcome state.now words.now policy.now m)).hashed
-        → IfErr result (λ _. StandsAmong (F.held files.new) (T.stored tpm.new) (marked m (line_outcome state.now words.now policy.now m)).stops) }
+    ensures told { (m : Machine) → Tells (F.held files.old) (T.stored tpm.old) (E.draws entropy.old) m → Safe (marked m (line_outcome (setting_of setting.now) words.now m)).hashed
+        → IfOk result (λ status. Leaves (F.held files.new) (T.stored tpm.new) (E.draws entropy.new) (O.written out.old) (O.written out.new) (R.faults err.old) (R.written err.old) (R.faults err.new) (R.written err.new) (number_of status) (marked m (line_outcome (setting_of setting.now) words.now m))) }
+    ensures stops { (m : Machine) → Tells (F.held files.old) (T.stored tpm.old) (E.draws entropy.old) m → Safe (marked m (line_outcome (setting_of setting.now) words.now m)).hashed
+        → IfErr result (λ _. StandsAmong (F.held files.new) (T.stored tpm.new) (marked m (line_outcome (setting_of setting.now) words.now m)).stops) }
 {
-    match line(alloc, state, words, policy, files, tpm, entropy) {
+    match line(alloc, setting, words, files, tpm, entropy) {
         Ok(reply) => show_marked(alloc, &reply, out, err),
         Err(stop) => Err(stop),
     }
@@ -45,10 +46,9 @@ fn marked_line<F: Files, T: Tpm, E: Entropy, O: Sink, R: Sink>(
 /// Runs a line of a script behind one of this status, unless it is passed over.
 fn step<F: Files, T: Tpm, E: Entropy, O: Sink, R: Sink>(
     alloc: Global,
-    state: &Name,
+    setting: &Setting<'_>,
     text: &str,
     status: Status,
-    policy: &Name,
     files: &mut F,
     tpm: &mut T,
     entropy: &mut E,
@@ -56,10 +56,10 @@ fn step<F: Files, T: Tpm, E: Entropy, O: Sink, R: Sink>(
     err: &mut R,
 ) -> Result<Status, Stop>
     ensures causes { HasCauses (F.faults files.old, E.faults entropy.old, T.faults tpm.old, O.faults out.old) (F.faults files.new, E.faults entropy.new, T.faults tpm.new, O.faults out.new) result }
-    ensures told { (m : Machine) → Tells (F.held files.old) (T.stored tpm.old) (E.words entropy.old) m → Safe (script_from state.now policy.now (lines_among (text.now ∷ [])) (number_of status) m).hashed
-        → IfOk result (λ next. Leaves (F.held files.new) (T.stored tpm.new) (E.words entropy.new) (O.written out.old) (O.written out.new) (R.faults err.old) (R.written err.old) (R.faults err.new) (R.written err.new) (number_of next) (script_from state.now policy.now (lines_among (text.now ∷ [])) (number_of status) m)) }
-    ensures stops { (m : Machine) → Tells (F.held files.old) (T.stored tpm.old) (E.words entropy.old) m → Safe (script_from state.now policy.now (lines_among (text.now ∷ [])) (number_of status) m).hashed
-        → IfErr result (λ _. StandsAmong (F.held files.new) (T.stored tpm.new) (script_from state.now policy.now (lines_among (text.now ∷ [])) (number_of status) m).stops) }
+    ensures told { (m : Machine) → Tells (F.held files.old) (T.stored tpm.old) (E.draws entropy.old) m → Safe (script_from (setting_of setting.now) (lines_among (text.now ∷ [])) (number_of status) m).hashed
+        → IfOk result (λ next. Leaves (F.held files.new) (T.stored tpm.new) (E.draws entropy.new) (O.written out.old) (O.written out.new) (R.faults err.old) (R.written err.old) (R.faults err.new) (R.written err.new) (number_of next) (script_from (setting_of setting.now) (lines_among (text.now ∷ [])) (number_of status) m)) }
+    ensures stops { (m : Machine) → Tells (F.held files.old) (T.stored tpm.old) (E.draws entropy.old) m → Safe (script_from (setting_of setting.now) (lines_among (text.now ∷ [])) (number_of status) m).hashed
+        → IfErr result (λ _. StandsAmong (F.held files.new) (T.stored tpm.new) (script_from (setting_of setting.now) (lines_among (text.now ∷ [])) (number_of status) m).stops) }
 {
     let Ok(words) = split_line(alloc, text) else {
         return Err(Stop::Memory);
@@ -69,9 +69,8 @@ fn step<F: Files, T: Tpm, E: Entropy, O: Sink, R: Sink>(
     }
     marked_line(
         alloc,
-        state,
+        setting,
         words.as_slice(),
-        policy,
         files,
         tpm,
         entropy,
@@ -80,12 +79,11 @@ fn step<F: Files, T: Tpm, E: Entropy, O: Sink, R: Sink>(
     )
 }
 
-/// Runs the lines of a script, under its policy path.
+/// Runs the lines of a script.
 pub fn script<F: Files, T: Tpm, E: Entropy, O: Sink, R: Sink>(
     alloc: Global,
-    state: &Name,
+    setting: &Setting<'_>,
     text: &str,
-    policy: &Name,
     files: &mut F,
     tpm: &mut T,
     entropy: &mut E,
@@ -93,18 +91,16 @@ pub fn script<F: Files, T: Tpm, E: Entropy, O: Sink, R: Sink>(
     err: &mut R,
 ) -> Result<Status, Stop>
     ensures causes { HasCauses (F.faults files.old, E.faults entropy.old, T.faults tpm.old, O.faults out.old) (F.faults files.new, E.faults entropy.new, T.faults tpm.new, O.faults out.new) result }
-    ensures told { (m : Machine) → Tells (F.held files.old) (T.stored tpm.old) (E.words entropy.old) m → Safe (whole_script state.now (lines_of text.now) policy.now m).hashed
-        → IfOk result (λ status. Leaves (F.held files.new) (T.stored tpm.new) (E.words entropy.new) (O.written out.old) (O.written out.new) (R.faults err.old) (R.written err.old) (R.faults err.new) (R.written err.new) (number_of status) (whole_script state.now (lines_of text.now) policy.now m)) }
-    ensures stops { (m : Machine) → Tells (F.held files.old) (T.stored tpm.old) (E.words entropy.old) m → Safe (whole_script state.now (lines_of text.now) policy.now m).hashed
-        → IfErr result (λ _. StandsAmong (F.held files.new) (T.stored tpm.new) (whole_script state.now (lines_of text.now) policy.now m).stops) }
+    ensures told { (m : Machine) → Tells (F.held files.old) (T.stored tpm.old) (E.draws entropy.old) m → Safe (whole_script (setting_of setting.now) (lines_of text.now) m).hashed
+        → IfOk result (λ status. Leaves (F.held files.new) (T.stored tpm.new) (E.draws entropy.new) (O.written out.old) (O.written out.new) (R.faults err.old) (R.written err.old) (R.faults err.new) (R.written err.new) (number_of status) (whole_script (setting_of setting.now) (lines_of text.now) m)) }
+    ensures stops { (m : Machine) → Tells (F.held files.old) (T.stored tpm.old) (E.draws entropy.old) m → Safe (whole_script (setting_of setting.now) (lines_of text.now) m).hashed
+        → IfErr result (λ _. StandsAmong (F.held files.new) (T.stored tpm.new) (whole_script (setting_of setting.now) (lines_of text.now) m).stops) }
 {
     let mut rest = text;
     let mut status = Status::Fine;
     'lines: while !rest.is_empty() {
         let (first, behind) = next_line(rest);
-        status = step(
-            alloc, state, first, status, policy, files, tpm, entropy, out, err,
-        )?;
+        status = step(alloc, setting, first, status, files, tpm, entropy, out, err)?;
         rest = behind;
     }
     Ok(status)

@@ -1,10 +1,10 @@
 //! What a command says: its text on standard output, or its answer on standard error.
 ghost use Rattle.std.specs.Prelude.{◌≡◌, ◌≤◌, ◌++◌, ℕ, Some, Option, List as Sequence, OnOk};
 ghost use Rattle.pl_base.specs.Faults.{Rose};
-ghost use Rattle.pcrlock_words.specs.Texts.{answer_text};
+ghost use Rattle.pcrlock_answer.specs.Texts.{answer_text};
 ghost use Rattle.pcrlock_line.specs.Causes.{HasCauses};
 ghost use Rattle.pcrlock_line.specs.Outcome.{ending_of};
-ghost use Rattle.pcrlock_words.specs.Texts.{status_text};
+ghost use Rattle.pcrlock_answer.specs.Texts.{status_text};
 ghost use Rattle.std.specs.Prelude.{IfOk, IfErr};
 ghost use Rattle.pcrlock_line.specs.declared.stop.Stop.TheVariants.{Memory as OutOfMemory};
 ghost use Rattle.pcrlock_run.specs.Status.{out_of, err_of, number_of, status_of, refusal_status};

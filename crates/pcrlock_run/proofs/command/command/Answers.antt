@@ -1,124 +1,208 @@
+use Rattle.std.proofs.Common.{subst}
+use Rattle.pcrlock_words.specs.ProperRequest.{IsProperRequest}
 use Rattle.std.specs.Prelude.{IfOk, IfErr}
 use Rattle.pcrlock_line.specs.declared.reply.Reply.{Reply}
 use Rattle.pcrlock_line.specs.Outcome.{Outcome, Gives}
 use Rattle.pcrlock_line.specs.Stopped.{StandsAmong}
+use Rattle.pcrlock_run.specs.Setting.{setting_of}
 use Rattle.pcrlock_run.specs.Leaves.{Safe}
+use Rattle.pcrlock_line.proofs.Devices.{stands_unchanged}
 use Rattle.pcrlock_run.proofs.Widened.{beside_tpm, beside_entropy, beside_files}
-use Rattle.pcrlock_run.proofs.Commands.{extends, enrolls, unseals, prints, lists, starts, logs, predicts, executes, by_outcome}
+use Rattle.pcrlock_run.proofs.Commands.{some_bank, extends, enrolls, unseals, prints, lists, starts, logs, predicts, executes, locks_code, locks_config, unlocks_code, unlocks_config, locks_raw, by_outcome}
 use Rattle.pcrlock_run.proofs.command.command.Goals as goal
 
-pub returns-then-pcr-le23-clause-causes : goal.returns-then-pcr-le23-clause-causes
-returns-then-pcr-le23-clause-causes g c = beside_tpm _ _ _ _ _ _ c.tpm_extend.ensures.causes
+pub tpm_extend-requires : goal.tpm_extend-requires
+tpm_extend-requires g c = subst IsProperRequest c.in-TpmExtend.is c.requires
 
-pub returns-then-pcr-le23-clause-told : goal.returns-then-pcr-le23-clause-told
-returns-then-pcr-le23-clause-told g c = λ m tells safe. by_outcome _ _
-    (λ (o : Outcome). IfOk c.tpm_extend.result (λ (r : Reply). Gives (g.F.Files.held c.args.files.now) (g.T.Tpm.stored c.tpm_extend.new.tpm) (g.E.Entropy.words c.args.entropy.now) r o))
-    (extends c.args.state.now c.args.request.now c.in-TpmExtend.pcr _ c.as_slice.result.now m c.in-TpmExtend.is c.as_slice.ensures c.if-pcr-le23.true)
+pub returns-in-TpmExtend-clause-causes : goal.returns-in-TpmExtend-clause-causes
+returns-in-TpmExtend-clause-causes g c = beside_tpm _ _ _ _ _ _ c.tpm_extend.ensures.causes
+
+pub returns-in-TpmExtend-clause-told : goal.returns-in-TpmExtend-clause-told
+returns-in-TpmExtend-clause-told g c = λ m tells safe. by_outcome _ _
+    (λ (o : Outcome). IfOk c.tpm_extend.result (λ (r : Reply). Gives (g.F.Files.held c.args.files.now) (g.T.Tpm.stored c.tpm_extend.new.tpm) (g.E.Entropy.draws c.args.entropy.now) r o))
+    (extends (setting_of c.args.setting.now) c.args.request.now c.in-TpmExtend.pcr _ c.as_slice.result.now m c.in-TpmExtend.is c.as_slice.ensures)
     (c.tpm_extend.ensures.told _ _ m tells)
 
-pub returns-then-pcr-le23-clause-stops : goal.returns-then-pcr-le23-clause-stops
-returns-then-pcr-le23-clause-stops g c = λ m tells. by_outcome _ _
+pub returns-in-TpmExtend-clause-stops : goal.returns-in-TpmExtend-clause-stops
+returns-in-TpmExtend-clause-stops g c = λ m tells. by_outcome _ _
     (λ (o : Outcome). IfErr c.tpm_extend.result (λ _. StandsAmong (g.F.Files.held c.args.files.now) (g.T.Tpm.stored c.tpm_extend.new.tpm) o.stops))
-    (extends c.args.state.now c.args.request.now c.in-TpmExtend.pcr _ c.as_slice.result.now m c.in-TpmExtend.is c.as_slice.ensures c.if-pcr-le23.true)
+    (extends (setting_of c.args.setting.now) c.args.request.now c.in-TpmExtend.pcr _ c.as_slice.result.now m c.in-TpmExtend.is c.as_slice.ensures)
     (c.tpm_extend.ensures.stops _ _ m tells)
+
+pub lock_raw-requires : goal.lock_raw-requires
+lock_raw-requires g c = subst IsProperRequest c.in-LockRaw.is c.requires
+
+pub enroll_literal-requires : goal.enroll_literal-requires
+enroll_literal-requires g c = (subst IsProperRequest c.in-Enroll.is c.requires).2
 
 pub returns-in-Enroll-clause-told : goal.returns-in-Enroll-clause-told
 returns-in-Enroll-clause-told g c = λ m tells safe. by_outcome _ _
-    (λ (o : Outcome). IfOk c.enroll_literal.result (λ (r : Reply). Gives (g.F.Files.held c.enroll_literal.new.files) (g.T.Tpm.stored c.enroll_literal.new.tpm) (g.E.Entropy.words c.enroll_literal.new.entropy) r o))
-    (enrolls c.args.state.now c.args.request.now _ _ _ _ _ m c.in-Enroll.is) (c.enroll_literal.ensures.told m tells)
+    (λ (o : Outcome). IfOk c.enroll_literal.result (λ (r : Reply). Gives (g.F.Files.held c.enroll_literal.new.files) (g.T.Tpm.stored c.enroll_literal.new.tpm) (g.E.Entropy.draws c.enroll_literal.new.entropy) r o))
+    (enrolls (setting_of c.args.setting.now) c.args.request.now _ _ _ _ _ m c.in-Enroll.is) (c.enroll_literal.ensures.told m tells)
 
 pub returns-in-Enroll-clause-stops : goal.returns-in-Enroll-clause-stops
 returns-in-Enroll-clause-stops g c = λ m tells. by_outcome _ _
     (λ (o : Outcome). IfErr c.enroll_literal.result (λ _. StandsAmong (g.F.Files.held c.enroll_literal.new.files) (g.T.Tpm.stored c.enroll_literal.new.tpm) o.stops))
-    (enrolls c.args.state.now c.args.request.now _ _ _ _ _ m c.in-Enroll.is) (c.enroll_literal.ensures.stops m tells)
+    (enrolls (setting_of c.args.setting.now) c.args.request.now _ _ _ _ _ m c.in-Enroll.is) (c.enroll_literal.ensures.stops m tells)
 
 pub returns-in-Unseal-clause-causes : goal.returns-in-Unseal-clause-causes
-returns-in-Unseal-clause-causes g c = beside_entropy _ _ _ _ _ c.unseal_token.result c.unseal_token.ensures.causes
+returns-in-Unseal-clause-causes g c = beside_entropy _ _ _ _ _ c.unseal.result c.unseal.ensures.causes
 
 pub returns-in-Unseal-clause-told : goal.returns-in-Unseal-clause-told
 returns-in-Unseal-clause-told g c = λ m tells. by_outcome _ _
-    (λ (o : Outcome). Safe o.hashed → IfOk c.unseal_token.result (λ (r : Reply). Gives (g.F.Files.held c.unseal_token.new.files) (g.T.Tpm.stored c.unseal_token.new.tpm) (g.E.Entropy.words c.args.entropy.now) r o))
-    (unseals c.args.state.now c.args.request.now _ _ m c.in-Unseal.is) (c.unseal_token.ensures.told _ m tells)
+    (λ (o : Outcome). Safe o.hashed → IfOk c.unseal.result (λ (r : Reply). Gives (g.F.Files.held c.unseal.new.files) (g.T.Tpm.stored c.unseal.new.tpm) (g.E.Entropy.draws c.args.entropy.now) r o))
+    (unseals (setting_of c.args.setting.now) c.args.request.now _ _ m c.in-Unseal.is) (c.unseal.ensures.told _ m tells)
 
 pub returns-in-Unseal-clause-stops : goal.returns-in-Unseal-clause-stops
 returns-in-Unseal-clause-stops g c = λ m tells. by_outcome _ _
-    (λ (o : Outcome). IfErr c.unseal_token.result (λ _. StandsAmong (g.F.Files.held c.unseal_token.new.files) (g.T.Tpm.stored c.unseal_token.new.tpm) o.stops))
-    (unseals c.args.state.now c.args.request.now _ _ m c.in-Unseal.is) (c.unseal_token.ensures.stops _ m tells)
+    (λ (o : Outcome). IfErr c.unseal.result (λ _. StandsAmong (g.F.Files.held c.unseal.new.files) (g.T.Tpm.stored c.unseal.new.tpm) o.stops))
+    (unseals (setting_of c.args.setting.now) c.args.request.now _ _ m c.in-Unseal.is) (c.unseal.ensures.stops _ m tells)
 
 pub returns-in-Cel-clause-causes : goal.returns-in-Cel-clause-causes
-returns-in-Cel-clause-causes g c = beside_files _ _ _ _ _ c.print_cel.result c.print_cel.ensures.causes
+returns-in-Cel-clause-causes g c = beside_files _ _ _ _ _ c.cel.result c.cel.ensures.causes
 
 pub returns-in-Cel-clause-told : goal.returns-in-Cel-clause-told
 returns-in-Cel-clause-told g c = λ m tells safe. by_outcome _ _
-    (λ (o : Outcome). IfOk c.print_cel.result (λ (r : Reply). Gives (g.F.Files.held c.print_cel.new.files) (g.T.Tpm.stored c.args.tpm.now) (g.E.Entropy.words c.args.entropy.now) r o))
-    (prints c.args.state.now c.args.request.now _ _ m c.in-Cel.is) (c.print_cel.ensures.told _ _ m tells)
+    (λ (o : Outcome). IfOk c.cel.result (λ (r : Reply). Gives (g.F.Files.held c.cel.new.files) (g.T.Tpm.stored c.args.tpm.now) (g.E.Entropy.draws c.args.entropy.now) r o))
+    (prints (setting_of c.args.setting.now) c.args.request.now _ _ _ _ m c.in-Cel.is c.as_ref.ensures.value c.as_ref-in-Cel.ensures.value) (c.cel.ensures.told _ _ m tells)
 
 pub returns-in-Cel-clause-stops : goal.returns-in-Cel-clause-stops
 returns-in-Cel-clause-stops g c = λ m tells. by_outcome _ _
-    (λ (o : Outcome). IfErr c.print_cel.result (λ _. StandsAmong (g.F.Files.held c.print_cel.new.files) (g.T.Tpm.stored c.args.tpm.now) o.stops))
-    (prints c.args.state.now c.args.request.now _ _ m c.in-Cel.is) (c.print_cel.ensures.stops _ _ m tells)
+    (λ (o : Outcome). IfErr c.cel.result (λ _. StandsAmong (g.F.Files.held c.cel.new.files) (g.T.Tpm.stored c.args.tpm.now) o.stops))
+    (prints (setting_of c.args.setting.now) c.args.request.now _ _ _ _ m c.in-Cel.is c.as_ref.ensures.value c.as_ref-in-Cel.ensures.value) (stands_unchanged _ _ _ m c.cel.result (c.cel.ensures.stops _ _ m tells))
 
 pub returns-in-ListComponents-clause-causes : goal.returns-in-ListComponents-clause-causes
-returns-in-ListComponents-clause-causes g c = beside_files _ _ _ _ _ c.print_components.result c.print_components.ensures.causes
+returns-in-ListComponents-clause-causes g c = beside_files _ _ _ _ _ c.list_components.result c.list_components.ensures.causes
 
 pub returns-in-ListComponents-clause-told : goal.returns-in-ListComponents-clause-told
 returns-in-ListComponents-clause-told g c = λ m tells safe. by_outcome _ _
-    (λ (o : Outcome). IfOk c.print_components.result (λ (r : Reply). Gives (g.F.Files.held c.print_components.new.files) (g.T.Tpm.stored c.args.tpm.now) (g.E.Entropy.words c.args.entropy.now) r o))
-    (lists c.args.state.now c.args.request.now _ m c.in-ListComponents.is) (c.print_components.ensures.told _ _ m tells)
+    (λ (o : Outcome). IfOk c.list_components.result (λ (r : Reply). Gives (g.F.Files.held c.list_components.new.files) (g.T.Tpm.stored c.args.tpm.now) (g.E.Entropy.draws c.args.entropy.now) r o))
+    (lists (setting_of c.args.setting.now) c.args.request.now _ _ m c.in-ListComponents.is c.as_slice-in-ListComponents.ensures) (c.list_components.ensures.told _ _ m tells)
 
 pub returns-in-ListComponents-clause-stops : goal.returns-in-ListComponents-clause-stops
 returns-in-ListComponents-clause-stops g c = λ m tells. by_outcome _ _
-    (λ (o : Outcome). IfErr c.print_components.result (λ _. StandsAmong (g.F.Files.held c.print_components.new.files) (g.T.Tpm.stored c.args.tpm.now) o.stops))
-    (lists c.args.state.now c.args.request.now _ m c.in-ListComponents.is) (c.print_components.ensures.stops _ _ m tells)
+    (λ (o : Outcome). IfErr c.list_components.result (λ _. StandsAmong (g.F.Files.held c.list_components.new.files) (g.T.Tpm.stored c.args.tpm.now) o.stops))
+    (lists (setting_of c.args.setting.now) c.args.request.now _ _ m c.in-ListComponents.is c.as_slice-in-ListComponents.ensures) (stands_unchanged _ _ _ m c.list_components.result (c.list_components.ensures.stops _ _ m tells))
+
+pub tpm_boot-requires-clause-locality : goal.tpm_boot-requires-clause-locality
+tpm_boot-requires-clause-locality g c = (subst IsProperRequest c.in-TpmBoot.is c.requires).0
+
+pub tpm_boot-requires-clause-banks : goal.tpm_boot-requires-clause-banks
+tpm_boot-requires-clause-banks g c = some_bank _ _ _ _ (subst IsProperRequest c.in-TpmBoot.is c.requires).1
 
 pub returns-in-TpmBoot-clause-causes : goal.returns-in-TpmBoot-clause-causes
-returns-in-TpmBoot-clause-causes g c = beside_entropy _ _ _ _ _ c.boot.result c.boot.ensures.causes
+returns-in-TpmBoot-clause-causes g c = beside_entropy _ _ _ _ _ c.tpm_boot.result c.tpm_boot.ensures.causes
 
 pub returns-in-TpmBoot-clause-told : goal.returns-in-TpmBoot-clause-told
 returns-in-TpmBoot-clause-told g c = λ m tells safe. by_outcome _ _
-    (λ (o : Outcome). IfOk c.boot.result (λ (r : Reply). Gives (g.F.Files.held c.boot.new.files) (g.T.Tpm.stored c.boot.new.tpm) (g.E.Entropy.words c.args.entropy.now) r o))
-    (starts c.args.state.now c.args.request.now _ _ _ _ m c.in-TpmBoot.is) (c.boot.ensures.told _ m tells)
+    (λ (o : Outcome). IfOk c.tpm_boot.result (λ (r : Reply). Gives (g.F.Files.held c.tpm_boot.new.files) (g.T.Tpm.stored c.tpm_boot.new.tpm) (g.E.Entropy.draws c.args.entropy.now) r o))
+    (starts (setting_of c.args.setting.now) c.args.request.now _ _ _ _ _ _ m c.in-TpmBoot.is c.as_ref-in-TpmBoot.ensures.value c.as_ref-in-TpmBoot-2.ensures.value) (c.tpm_boot.ensures.told _ m tells)
 
 pub returns-in-TpmBoot-clause-stops : goal.returns-in-TpmBoot-clause-stops
 returns-in-TpmBoot-clause-stops g c = λ m tells. by_outcome _ _
-    (λ (o : Outcome). IfErr c.boot.result (λ _. StandsAmong (g.F.Files.held c.boot.new.files) (g.T.Tpm.stored c.boot.new.tpm) o.stops))
-    (starts c.args.state.now c.args.request.now _ _ _ _ m c.in-TpmBoot.is) (c.boot.ensures.stops _ m tells)
+    (λ (o : Outcome). IfErr c.tpm_boot.result (λ _. StandsAmong (g.F.Files.held c.tpm_boot.new.files) (g.T.Tpm.stored c.tpm_boot.new.tpm) o.stops))
+    (starts (setting_of c.args.setting.now) c.args.request.now _ _ _ _ _ _ m c.in-TpmBoot.is c.as_ref-in-TpmBoot.ensures.value c.as_ref-in-TpmBoot-2.ensures.value) (c.tpm_boot.ensures.stops _ m tells)
 
 pub returns-in-Log-clause-causes : goal.returns-in-Log-clause-causes
-returns-in-Log-clause-causes g c = beside_entropy _ _ _ _ _ c.print_log.result c.print_log.ensures.causes
+returns-in-Log-clause-causes g c = beside_entropy _ _ _ _ _ c.log.result c.log.ensures.causes
 
 pub returns-in-Log-clause-told : goal.returns-in-Log-clause-told
 returns-in-Log-clause-told g c = λ m tells safe. by_outcome _ _
-    (λ (o : Outcome). IfOk c.print_log.result (λ (r : Reply). Gives (g.F.Files.held c.print_log.new.files) (g.T.Tpm.stored c.print_log.new.tpm) (g.E.Entropy.words c.args.entropy.now) r o))
-    (logs c.args.state.now c.args.request.now _ _ _ _ m c.in-Log.is) (c.print_log.ensures.told _ m tells)
+    (λ (o : Outcome). IfOk c.log.result (λ (r : Reply). Gives (g.F.Files.held c.log.new.files) (g.T.Tpm.stored c.log.new.tpm) (g.E.Entropy.draws c.args.entropy.now) r o))
+    (logs (setting_of c.args.setting.now) c.args.request.now _ _ _ _ _ _ _ m c.in-Log.is c.as_ref-in-Log.ensures.value c.as_ref-in-Log-2.ensures.value c.as_slice-in-Log.ensures) (c.log.ensures.told _ m tells)
 
 pub returns-in-Log-clause-stops : goal.returns-in-Log-clause-stops
 returns-in-Log-clause-stops g c = λ m tells. by_outcome _ _
-    (λ (o : Outcome). IfErr c.print_log.result (λ _. StandsAmong (g.F.Files.held c.print_log.new.files) (g.T.Tpm.stored c.print_log.new.tpm) o.stops))
-    (logs c.args.state.now c.args.request.now _ _ _ _ m c.in-Log.is) (c.print_log.ensures.stops _ m tells)
+    (λ (o : Outcome). IfErr c.log.result (λ _. StandsAmong (g.F.Files.held c.log.new.files) (g.T.Tpm.stored c.log.new.tpm) o.stops))
+    (logs (setting_of c.args.setting.now) c.args.request.now _ _ _ _ _ _ _ m c.in-Log.is c.as_ref-in-Log.ensures.value c.as_ref-in-Log-2.ensures.value c.as_slice-in-Log.ensures) (stands_unchanged _ _ _ m c.log.result (c.log.ensures.stops _ m tells))
 
 pub returns-in-Predict-clause-causes : goal.returns-in-Predict-clause-causes
-returns-in-Predict-clause-causes g c = beside_entropy _ _ _ _ _ c.print_prediction.result c.print_prediction.ensures.causes
+returns-in-Predict-clause-causes g c = beside_entropy _ _ _ _ _ c.predict.result c.predict.ensures.causes
 
 pub returns-in-Predict-clause-told : goal.returns-in-Predict-clause-told
 returns-in-Predict-clause-told g c = λ m tells safe. by_outcome _ _
-    (λ (o : Outcome). IfOk c.print_prediction.result (λ (r : Reply). Gives (g.F.Files.held c.print_prediction.new.files) (g.T.Tpm.stored c.print_prediction.new.tpm) (g.E.Entropy.words c.args.entropy.now) r o))
-    (predicts c.args.state.now c.args.request.now _ _ _ _ _ _ _ m c.in-Predict.is) (c.print_prediction.ensures.told _ m tells)
+    (λ (o : Outcome). IfOk c.predict.result (λ (r : Reply). Gives (g.F.Files.held c.predict.new.files) (g.T.Tpm.stored c.predict.new.tpm) (g.E.Entropy.draws c.args.entropy.now) r o))
+    (predicts (setting_of c.args.setting.now) c.args.request.now _ _ _ _ _ _ _ _ _ _ m c.in-Predict.is c.as_ref-in-Predict.ensures.value c.as_ref-in-Predict-2.ensures.value c.as_slice-in-Predict.ensures) (c.predict.ensures.told _ m tells)
 
 pub returns-in-Predict-clause-stops : goal.returns-in-Predict-clause-stops
 returns-in-Predict-clause-stops g c = λ m tells. by_outcome _ _
-    (λ (o : Outcome). IfErr c.print_prediction.result (λ _. StandsAmong (g.F.Files.held c.print_prediction.new.files) (g.T.Tpm.stored c.print_prediction.new.tpm) o.stops))
-    (predicts c.args.state.now c.args.request.now _ _ _ _ _ _ _ m c.in-Predict.is) (c.print_prediction.ensures.stops _ m tells)
+    (λ (o : Outcome). IfErr c.predict.result (λ _. StandsAmong (g.F.Files.held c.predict.new.files) (g.T.Tpm.stored c.predict.new.tpm) o.stops))
+    (predicts (setting_of c.args.setting.now) c.args.request.now _ _ _ _ _ _ _ _ _ _ m c.in-Predict.is c.as_ref-in-Predict.ensures.value c.as_ref-in-Predict-2.ensures.value c.as_slice-in-Predict.ensures) (stands_unchanged _ _ _ m c.predict.result (c.predict.ensures.stops _ m tells))
 
 pub returns-in-TpmExec-clause-causes : goal.returns-in-TpmExec-clause-causes
-returns-in-TpmExec-clause-causes g c = beside_entropy _ _ _ _ _ c.execute.result c.execute.ensures.causes
+returns-in-TpmExec-clause-causes g c = beside_entropy _ _ _ _ _ c.tpm_exec.result c.tpm_exec.ensures.causes
 
 pub returns-in-TpmExec-clause-told : goal.returns-in-TpmExec-clause-told
 returns-in-TpmExec-clause-told g c = λ m tells safe. by_outcome _ _
-    (λ (o : Outcome). IfOk c.execute.result (λ (r : Reply). Gives (g.F.Files.held c.execute.new.files) (g.T.Tpm.stored c.execute.new.tpm) (g.E.Entropy.words c.args.entropy.now) r o))
-    (executes c.args.state.now c.args.request.now _ m c.in-TpmExec.is) (c.execute.ensures.told _ m tells)
+    (λ (o : Outcome). IfOk c.tpm_exec.result (λ (r : Reply). Gives (g.F.Files.held c.tpm_exec.new.files) (g.T.Tpm.stored c.tpm_exec.new.tpm) (g.E.Entropy.draws c.args.entropy.now) r o))
+    (executes (setting_of c.args.setting.now) c.args.request.now _ m c.in-TpmExec.is) (c.tpm_exec.ensures.told _ m tells)
 
 pub returns-in-TpmExec-clause-stops : goal.returns-in-TpmExec-clause-stops
 returns-in-TpmExec-clause-stops g c = λ m tells. by_outcome _ _
-    (λ (o : Outcome). IfErr c.execute.result (λ _. StandsAmong (g.F.Files.held c.execute.new.files) (g.T.Tpm.stored c.execute.new.tpm) o.stops))
-    (executes c.args.state.now c.args.request.now _ m c.in-TpmExec.is) (c.execute.ensures.stops _ m tells)
+    (λ (o : Outcome). IfErr c.tpm_exec.result (λ _. StandsAmong (g.F.Files.held c.tpm_exec.new.files) (g.T.Tpm.stored c.tpm_exec.new.tpm) o.stops))
+    (executes (setting_of c.args.setting.now) c.args.request.now _ m c.in-TpmExec.is) (c.tpm_exec.ensures.stops _ m tells)
+
+pub returns-in-LockFirmwareCode-clause-causes : goal.returns-in-LockFirmwareCode-clause-causes
+returns-in-LockFirmwareCode-clause-causes g c = beside_files _ _ _ _ _ c.lock_firmware.result c.lock_firmware.ensures.causes
+
+pub returns-in-LockFirmwareCode-clause-told : goal.returns-in-LockFirmwareCode-clause-told
+returns-in-LockFirmwareCode-clause-told g c = λ m tells safe. by_outcome _ _
+    (λ (o : Outcome). IfOk c.lock_firmware.result (λ (r : Reply). Gives (g.F.Files.held c.lock_firmware.new.files) (g.T.Tpm.stored c.args.tpm.now) (g.E.Entropy.draws c.args.entropy.now) r o))
+    (locks_code (setting_of c.args.setting.now) c.args.request.now _ _ _ _ m c.in-LockFirmwareCode.is c.as_ref-in-LockFirmwareCode.ensures.value) (c.lock_firmware.ensures.told _ _ m tells)
+
+pub returns-in-LockFirmwareCode-clause-stops : goal.returns-in-LockFirmwareCode-clause-stops
+returns-in-LockFirmwareCode-clause-stops g c = λ m tells. by_outcome _ _
+    (λ (o : Outcome). IfErr c.lock_firmware.result (λ _. StandsAmong (g.F.Files.held c.lock_firmware.new.files) (g.T.Tpm.stored c.args.tpm.now) o.stops))
+    (locks_code (setting_of c.args.setting.now) c.args.request.now _ _ _ _ m c.in-LockFirmwareCode.is c.as_ref-in-LockFirmwareCode.ensures.value) (c.lock_firmware.ensures.stops _ _ m tells)
+
+pub returns-in-LockFirmwareConfig-clause-causes : goal.returns-in-LockFirmwareConfig-clause-causes
+returns-in-LockFirmwareConfig-clause-causes g c = beside_files _ _ _ _ _ c.lock_firmware-in-LockFirmwareConfig.result c.lock_firmware-in-LockFirmwareConfig.ensures.causes
+
+pub returns-in-LockFirmwareConfig-clause-told : goal.returns-in-LockFirmwareConfig-clause-told
+returns-in-LockFirmwareConfig-clause-told g c = λ m tells safe. by_outcome _ _
+    (λ (o : Outcome). IfOk c.lock_firmware-in-LockFirmwareConfig.result (λ (r : Reply). Gives (g.F.Files.held c.lock_firmware-in-LockFirmwareConfig.new.files) (g.T.Tpm.stored c.args.tpm.now) (g.E.Entropy.draws c.args.entropy.now) r o))
+    (locks_config (setting_of c.args.setting.now) c.args.request.now _ _ _ _ m c.in-LockFirmwareConfig.is c.as_ref-in-LockFirmwareConfig.ensures.value) (c.lock_firmware-in-LockFirmwareConfig.ensures.told _ _ m tells)
+
+pub returns-in-LockFirmwareConfig-clause-stops : goal.returns-in-LockFirmwareConfig-clause-stops
+returns-in-LockFirmwareConfig-clause-stops g c = λ m tells. by_outcome _ _
+    (λ (o : Outcome). IfErr c.lock_firmware-in-LockFirmwareConfig.result (λ _. StandsAmong (g.F.Files.held c.lock_firmware-in-LockFirmwareConfig.new.files) (g.T.Tpm.stored c.args.tpm.now) o.stops))
+    (locks_config (setting_of c.args.setting.now) c.args.request.now _ _ _ _ m c.in-LockFirmwareConfig.is c.as_ref-in-LockFirmwareConfig.ensures.value) (c.lock_firmware-in-LockFirmwareConfig.ensures.stops _ _ m tells)
+
+pub returns-in-UnlockFirmwareCode-clause-causes : goal.returns-in-UnlockFirmwareCode-clause-causes
+returns-in-UnlockFirmwareCode-clause-causes g c = beside_files _ _ _ _ _ c.unlock_firmware.result c.unlock_firmware.ensures.causes
+
+pub returns-in-UnlockFirmwareCode-clause-told : goal.returns-in-UnlockFirmwareCode-clause-told
+returns-in-UnlockFirmwareCode-clause-told g c = λ m tells safe. by_outcome _ _
+    (λ (o : Outcome). IfOk c.unlock_firmware.result (λ (r : Reply). Gives (g.F.Files.held c.unlock_firmware.new.files) (g.T.Tpm.stored c.args.tpm.now) (g.E.Entropy.draws c.args.entropy.now) r o))
+    (unlocks_code (setting_of c.args.setting.now) c.args.request.now _ _ m c.in-UnlockFirmwareCode.is) (c.unlock_firmware.ensures.told _ _ m tells)
+
+pub returns-in-UnlockFirmwareCode-clause-stops : goal.returns-in-UnlockFirmwareCode-clause-stops
+returns-in-UnlockFirmwareCode-clause-stops g c = λ m tells. by_outcome _ _
+    (λ (o : Outcome). IfErr c.unlock_firmware.result (λ _. StandsAmong (g.F.Files.held c.unlock_firmware.new.files) (g.T.Tpm.stored c.args.tpm.now) o.stops))
+    (unlocks_code (setting_of c.args.setting.now) c.args.request.now _ _ m c.in-UnlockFirmwareCode.is) (c.unlock_firmware.ensures.stops _ _ m tells)
+
+pub returns-in-UnlockFirmwareConfig-clause-causes : goal.returns-in-UnlockFirmwareConfig-clause-causes
+returns-in-UnlockFirmwareConfig-clause-causes g c = beside_files _ _ _ _ _ c.unlock_firmware-in-UnlockFirmwareConfig.result c.unlock_firmware-in-UnlockFirmwareConfig.ensures.causes
+
+pub returns-in-UnlockFirmwareConfig-clause-told : goal.returns-in-UnlockFirmwareConfig-clause-told
+returns-in-UnlockFirmwareConfig-clause-told g c = λ m tells safe. by_outcome _ _
+    (λ (o : Outcome). IfOk c.unlock_firmware-in-UnlockFirmwareConfig.result (λ (r : Reply). Gives (g.F.Files.held c.unlock_firmware-in-UnlockFirmwareConfig.new.files) (g.T.Tpm.stored c.args.tpm.now) (g.E.Entropy.draws c.args.entropy.now) r o))
+    (unlocks_config (setting_of c.args.setting.now) c.args.request.now _ _ m c.in-UnlockFirmwareConfig.is) (c.unlock_firmware-in-UnlockFirmwareConfig.ensures.told _ _ m tells)
+
+pub returns-in-UnlockFirmwareConfig-clause-stops : goal.returns-in-UnlockFirmwareConfig-clause-stops
+returns-in-UnlockFirmwareConfig-clause-stops g c = λ m tells. by_outcome _ _
+    (λ (o : Outcome). IfErr c.unlock_firmware-in-UnlockFirmwareConfig.result (λ _. StandsAmong (g.F.Files.held c.unlock_firmware-in-UnlockFirmwareConfig.new.files) (g.T.Tpm.stored c.args.tpm.now) o.stops))
+    (unlocks_config (setting_of c.args.setting.now) c.args.request.now _ _ m c.in-UnlockFirmwareConfig.is) (c.unlock_firmware-in-UnlockFirmwareConfig.ensures.stops _ _ m tells)
+
+pub returns-in-LockRaw-clause-causes : goal.returns-in-LockRaw-clause-causes
+returns-in-LockRaw-clause-causes g c = beside_files _ _ _ _ _ c.lock_raw.result c.lock_raw.ensures.causes
+
+pub returns-in-LockRaw-clause-told : goal.returns-in-LockRaw-clause-told
+returns-in-LockRaw-clause-told g c = λ m tells safe. by_outcome _ _
+    (λ (o : Outcome). IfOk c.lock_raw.result (λ (r : Reply). Gives (g.F.Files.held c.lock_raw.new.files) (g.T.Tpm.stored c.args.tpm.now) (g.E.Entropy.draws c.args.entropy.now) r o))
+    (locks_raw (setting_of c.args.setting.now) c.args.request.now _ _ _ m c.in-LockRaw.is) (c.lock_raw.ensures.told _ _ m tells)
+
+pub returns-in-LockRaw-clause-stops : goal.returns-in-LockRaw-clause-stops
+returns-in-LockRaw-clause-stops g c = λ m tells. by_outcome _ _
+    (λ (o : Outcome). IfErr c.lock_raw.result (λ _. StandsAmong (g.F.Files.held c.lock_raw.new.files) (g.T.Tpm.stored c.args.tpm.now) o.stops))
+    (locks_raw (setting_of c.args.setting.now) c.args.request.now _ _ _ m c.in-LockRaw.is) (c.lock_raw.ensures.stops _ _ m tells)

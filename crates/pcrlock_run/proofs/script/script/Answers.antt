@@ -12,7 +12,7 @@ pub lines-init : goal.lines-init
 lines-init g c = record {
   text = search rules;
   causes = search rules;
-  told = λ m tells safe. begins _ _ _ _ _ _ _ _ _ 0 m tells safe;
+  told = λ m tells safe. begins _ _ _ _ _ _ _ _ 0 m tells safe;
 }
 
 pub returns-in_err-status-clause-causes : goal.returns-in_err-status-clause-causes
@@ -26,7 +26,7 @@ returns-in_err-status-clause-stops g c = λ m tells safe.
     let was : c.step.result ≡ Err c.in_err-status.field-0.0 = search rules in
     let is : c.from_residual.result ≡ Err c.in_err-status.field-0.0 = search rules in
     stopped_so _ c.from_residual.result c.in_err-status.field-0.0 is
-    (halts _ _ _ _ _ _ _ _ _ _ _ _ _ _ _ _ _ _ c.next_line.ensures.split (c.lines.invariant.told m tells safe)
+    (halts _ _ _ _ _ _ _ _ _ _ _ _ _ _ _ _ _ c.next_line.ensures.split (c.lines.invariant.told m tells safe)
     (λ n t free. stop_of _ c.step.result c.in_err-status.field-0.0 was (c.step.ensures.stops n t free)))
 
 pub lines-preserved : goal.lines-preserved
@@ -34,10 +34,10 @@ lines-preserved g c = record {
   text = search rules;
   causes = then_ends _ _ _ (Ok tt) c.step.result tt c.lines.invariant.causes c.step.ensures.causes;
   told = λ m tells safe.
-      continues _ _ _ _ _ _ _ _ _ _ _ _ _ _ _ _ _ _ _ _ _ _ _ c.next_line.ensures.split (c.lines.invariant.told m tells safe) c.in_ok-status.ensures.told;
+      continues _ _ _ _ _ _ _ _ _ _ _ _ _ _ _ _ _ _ _ _ _ _ c.next_line.ensures.split (c.lines.invariant.told m tells safe) c.in_ok-status.ensures.told;
 }
 
 pub returns-clause-told : goal.returns-clause-told
 returns-clause-told g c = λ m tells safe.
     let empty : (length c.lines.rest.now == 0) ≡ true = grind (arith, common_steps) in
-    ends _ _ _ _ _ _ _ _ _ _ _ _ _ _ (nothing_left c.lines.rest.now empty) (c.lines.invariant.told m tells safe)
+    ends _ _ _ _ _ _ _ _ _ _ _ _ _ (nothing_left c.lines.rest.now empty) (c.lines.invariant.told m tells safe)

@@ -1,5 +1,7 @@
-use Rattle.std.proofs.Common.{◌∙◌, ap}
+use Rattle.std.proofs.Common.{◌∙◌}
 use Rattle.pcrlock_run.proofs.Widened.{fault_cause}
+use Rattle.pcrlock_deeds.specs.Kept.{IsOwnKept, IsKept}
+use Rattle.pcrlock_deeds.proofs.Tying.{own_tie, kept_tie, fresh_kept}
 use Rattle.pcrlock_run.proofs.Kept.{run_kept}
 use Rattle.pcrlock_run.proofs.Exact.{run_exact}
 use Rattle.pcrlock_run.proofs.Premise.{run_hashed, run_safe}
@@ -12,10 +14,10 @@ returns-in-Ok-clause-told g c = λ m t safe no_fault no_want.
     record { status = c.number.ensures ∙ l.status; out = l.out; err = l.err; tells = l.tells }
 
 pub returns-in-Ok-clause-kept : goal.returns-in-Ok-clause-kept
-returns-in-Ok-clause-kept g c = λ m w t. run_kept c.args.words.now m w t
+returns-in-Ok-clause-kept g c = λ m w path under kept clean safe. run_kept path (IsOwnKept path) (own_tie path) c.args.words.now m w under clean safe kept
 
 pub returns-in-Ok-clause-headline : goal.returns-in-Ok-clause-headline
-returns-in-Ok-clause-headline g c = λ m w t safe. run_exact c.args.words.now m w t safe
+returns-in-Ok-clause-headline g c = λ m w path under kept clean safe. run_exact path c.args.words.now m w under clean safe kept
 
 pub returns-in-Ok-clause-premise : goal.returns-in-Ok-clause-premise
 returns-in-Ok-clause-premise g c = λ m w. run_hashed c.args.words.now m w
@@ -29,10 +31,22 @@ pub returns-in-Err-clause-premise : goal.returns-in-Err-clause-premise
 returns-in-Err-clause-premise g c = λ m w. run_hashed c.args.words.now m w
 
 pub returns-in-Err-clause-kept : goal.returns-in-Err-clause-kept
-returns-in-Err-clause-kept g c = λ m w t. run_kept c.args.words.now m w t
+returns-in-Err-clause-kept g c = λ m w path under kept clean safe. run_kept path (IsOwnKept path) (own_tie path) c.args.words.now m w under clean safe kept
 
 pub returns-in-Err-clause-headline : goal.returns-in-Err-clause-headline
-returns-in-Err-clause-headline g c = λ m w t safe. run_exact c.args.words.now m w t safe
+returns-in-Err-clause-headline g c = λ m w path under kept clean safe. run_exact path c.args.words.now m w under clean safe kept
 
 pub returns-in-Err-clause-faults : goal.returns-in-Err-clause-faults
 returns-in-Err-clause-faults g c = λ five. fault_cause _ _ c.run_words.result c.in-Err.stop c.stopped.result c.run_words.ensures.causes c.in-Err.is c.stopped.ensures.status five
+
+pub returns-in-Ok-clause-trails : goal.returns-in-Ok-clause-trails
+returns-in-Ok-clause-trails g c = λ m w path under kept clean safe. run_kept path (IsKept path) (kept_tie path) c.args.words.now m w under clean safe kept
+
+pub returns-in-Ok-clause-fresh : goal.returns-in-Ok-clause-fresh
+returns-in-Ok-clause-fresh g c = λ path banks held draws some none. fresh_kept path banks held draws some none
+
+pub returns-in-Err-clause-trails : goal.returns-in-Err-clause-trails
+returns-in-Err-clause-trails g c = λ m w path under kept clean safe. run_kept path (IsKept path) (kept_tie path) c.args.words.now m w under clean safe kept
+
+pub returns-in-Err-clause-fresh : goal.returns-in-Err-clause-fresh
+returns-in-Err-clause-fresh g c = λ path banks held draws some none. fresh_kept path banks held draws some none

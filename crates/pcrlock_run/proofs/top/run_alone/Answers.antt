@@ -3,9 +3,10 @@ use Rattle.pcrlock_run.proofs.Widened.{beside_out, beside_others, no_fault}
 use Rattle.std.proofs.Common.{◌≡◌}
 use Rattle.pcrlock_line.specs.declared.stop.Stop.{Stop}
 use Rattle.pcrlock_run.specs.Status.{stop_number}
+use Rattle.pcrlock_run.specs.Setting.{setting_of}
 use Rattle.pcrlock_run.specs.Script.{command_line}
 use Rattle.pcrlock_run.proofs.Marks.{alone_leaves, alone_stops, alone_done, done_stops}
-use Rattle.pcrlock_run.proofs.Lasts.{command_last}
+use Rattle.pcrlock_run.proofs.Acts.{command_last}
 use Rattle.pcrlock_run.proofs.top.run_alone.Goals as goal
 
 pub returns-in-Ok-clause-causes : goal.returns-in-Ok-clause-causes
@@ -14,15 +15,15 @@ returns-in-Ok-clause-causes g c = then _ _ _ c.command.result c.show_alone.resul
 
 pub returns-in-Ok-clause-told : goal.returns-in-Ok-clause-told
 returns-in-Ok-clause-told g c = λ m tells safe.
-    alone_leaves _ _ _ _ _ _ _ _ _ (command_line c.args.state.now c.args.request.now m) c.in-Ok.reply c.show_alone.result (c.in-Ok.ensures.told m tells safe) c.show_alone.ensures.status c.show_alone.ensures.told c.show_alone.ensures.said
+    alone_leaves _ _ _ _ _ _ _ _ _ (command_line (setting_of c.args.setting.now) c.args.request.now m) c.in-Ok.reply c.show_alone.result (c.in-Ok.ensures.told m tells safe) c.show_alone.ensures.status c.show_alone.ensures.told c.show_alone.ensures.said
 
 pub returns-in-Ok-clause-stops : goal.returns-in-Ok-clause-stops
 returns-in-Ok-clause-stops g c = λ m tells safe.
-    alone_stops _ _ (command_line c.args.state.now c.args.request.now m) c.show_alone.result (command_last _ _ c.args.state.now c.args.request.now m (alone_done _ _ _ (command_line c.args.state.now c.args.request.now m) c.in-Ok.reply (c.in-Ok.ensures.told m tells safe)))
+    alone_stops _ _ (command_line (setting_of c.args.setting.now) c.args.request.now m) c.show_alone.result (command_last _ _ (setting_of c.args.setting.now) c.args.request.now m c.requires (alone_done _ _ _ (command_line (setting_of c.args.setting.now) c.args.request.now m) c.in-Ok.reply (c.in-Ok.ensures.told m tells safe)))
 
 pub returns-in-Ok-clause-done : goal.returns-in-Ok-clause-done
 returns-in-Ok-clause-done g c = λ m tells safe.
-    done_stops _ _ _ (command_line c.args.state.now c.args.request.now m) c.in-Ok.reply c.show_alone.result _ _ _ (λ (stop : Stop). stop_number stop ≡ 5) (c.in-Ok.ensures.told m tells safe)
+    done_stops _ _ _ (command_line (setting_of c.args.setting.now) c.args.request.now m) c.in-Ok.reply c.show_alone.result _ _ _ (λ (stop : Stop). stop_number stop ≡ 5) (c.in-Ok.ensures.told m tells safe)
 
 pub returns-in-Err-clause-causes : goal.returns-in-Err-clause-causes
 returns-in-Err-clause-causes g c = stops _ _ c.command.result c.in-Err.stop (beside_out _ _ _ _ _ _ _ c.command.result c.command.ensures.causes) c.in-Err.is

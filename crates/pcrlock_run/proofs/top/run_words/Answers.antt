@@ -1,9 +1,8 @@
 use Rattle.std.proofs.Common.{◌≡◌, sym}
-use Rattle.std.specs.Prelude.{None, IfErr}
+use Rattle.std.specs.Prelude.{IfErr}
 use Rattle.pl_base.specs.Faults.{Rose}
 use Rattle.pcrlock_line.specs.declared.stop.Stop.{Stop}
 use Rattle.pcrlock_line.specs.Stopped.{StandsAt}
-use Rattle.pcrlock_words.specs.Requests.{request_of}
 use Rattle.pcrlock_run.specs.Status.{stop_number}
 use Rattle.pcrlock_run.specs.Script.{Whole}
 use Rattle.pcrlock_run.proofs.Texts.{by_equal, spelled_words}
