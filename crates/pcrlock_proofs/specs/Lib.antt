@@ -1,0 +1,3 @@
+pub mod CheckProof
+pub mod Prove
+pub mod Acts
