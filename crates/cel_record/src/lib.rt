@@ -12,8 +12,6 @@ mod kind;
 mod member;
 mod reader;
 mod record;
-#[cfg(test)]
-mod tests;
 mod value;
 mod writer;
 

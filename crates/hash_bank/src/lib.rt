@@ -10,8 +10,6 @@ mod digest;
 mod digests;
 mod hasher;
 mod hashing;
-#[cfg(test)]
-mod tests;
 
 pub use crate::bank::Bank;
 pub use crate::banks::Banks;

@@ -7,8 +7,6 @@ mod index;
 mod name;
 mod refusal;
 mod table;
-#[cfg(test)]
-mod tests;
 
 pub use crate::attributes::{CONTENT_SIZE, DEFINED_ATTRIBUTES, WRITTEN_ATTRIBUTES};
 pub use crate::index::{Index, NvPublic, Written};

@@ -5,7 +5,5 @@
 mod level;
 mod plan;
 mod row;
-#[cfg(test)]
-mod tests;
 
 pub use crate::plan::{OrPlan, build};

@@ -12,6 +12,3 @@ pub use combining::combined;
 pub use measuring::measured;
 pub use record::{LogRecord, Origin};
 pub use replaying::{replay, replay_all};
-
-#[cfg(test)]
-mod tests;

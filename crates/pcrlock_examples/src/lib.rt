@@ -1,4 +1,5 @@
-//! Whole runs of the program over files, a TPM, random words and outputs in memory.
+//! Whole runs of the program over what only objects in memory can be: random words that are told, files at the usual
+//! paths, calls that fail. Runs that the built program can do as well are cases of the repository's examples.
 #![tactic(auto)]
 
 #[cfg(test)]
@@ -12,10 +13,4 @@ mod harness;
 #[cfg(test)]
 mod keys;
 #[cfg(test)]
-mod predictions;
-#[cfg(test)]
-mod scripts;
-#[cfg(test)]
 mod sealing;
-#[cfg(test)]
-mod tpm_lines;

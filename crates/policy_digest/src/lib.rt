@@ -8,10 +8,6 @@ mod formulas;
 mod group;
 mod mask;
 mod table;
-#[cfg(test)]
-mod table_tests;
-#[cfg(test)]
-mod tests;
 mod values;
 
 pub use crate::formulas::{

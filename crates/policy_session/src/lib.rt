@@ -3,16 +3,12 @@
 #![tactic(auto)]
 
 mod bound;
-#[cfg(test)]
-mod bound_tests;
 mod error;
 mod index;
 mod literal;
 mod present;
 mod responses;
 mod steps;
-#[cfg(test)]
-mod tests;
 
 pub use crate::bound::unseal_bound;
 pub use crate::error::UnsealError;

@@ -8,8 +8,6 @@ mod ending;
 mod prepared;
 mod started;
 mod stopped;
-#[cfg(test)]
-mod tests;
 mod walk;
 mod why;
 

@@ -10,8 +10,6 @@ mod line;
 mod outcome;
 mod playing;
 mod race;
-#[cfg(test)]
-mod tests;
 
 pub use crate::event::Event;
 pub use crate::line::outcome_line;

@@ -16,6 +16,3 @@ pub use explaining::explain;
 pub use lacking::{RecordPlace, first_lacking};
 pub use listing::listed_by;
 pub use noting::Listing;
-
-#[cfg(test)]
-mod tests;

@@ -22,6 +22,3 @@ pub use spec_id::{Algorithm, SpecId};
 pub use startup::locality;
 pub use writable::is_writable;
 pub use writing::write_log;
-
-#[cfg(test)]
-mod tests;

@@ -7,8 +7,6 @@ mod leaving;
 mod plan;
 mod rows;
 mod serving;
-#[cfg(test)]
-mod tests;
 
 pub use crate::broker::Broker;
 pub use crate::serving::{each_is_answered_alone, serve};

@@ -3,8 +3,6 @@
 
 mod device;
 mod soft;
-#[cfg(test)]
-mod tests;
 
 pub use crate::device::{BeginError, ExecError, Tpm};
 pub use crate::soft::SoftTpm;

@@ -5,8 +5,6 @@
 mod error;
 mod log;
 mod reader;
-#[cfg(test)]
-mod tests;
 mod writer;
 
 pub use error::SeqError;

@@ -1,5 +1,0 @@
-use Rattle.std.proofs.Common.{length}
-use Rattle.race_core.proofs.tests.+are_events.Given as goal
-
-abbrev pub decreases-are_events : goal.decreases-are_events
-decreases-are_events l = length l.events.now
