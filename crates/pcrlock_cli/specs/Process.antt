@@ -1,7 +1,7 @@
 -- What the program does before it runs its words.
 use Rattle.std.specs.Prelude.{ℕ, List, [], ◌∷◌}
-use Rattle.pcrlock_words.specs.declared.answer.Answer.TheVariants as answers
-use Rattle.pcrlock_words.specs.Texts.{answer_text}
+use Rattle.pcrlock_answer.specs.declared.answer.Answer.TheVariants as answers
+use Rattle.pcrlock_answer.specs.Texts.{answer_text}
 use Rattle.pcrlock_cli.specs.declared.Refusal.{Refusal}
 use Rattle.pcrlock_cli.specs.declared.Refusal.TheVariants.{BadWords, Memory}
 

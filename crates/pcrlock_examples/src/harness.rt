@@ -25,8 +25,6 @@ const RECORDS: usize = 65_536;
 pub(crate) enum Content {
     /// A text.
     Text(&'static str),
-    /// A line, so many times, and a text behind them.
-    Lines(&'static str, u32, &'static str),
     /// Hexadecimal digits in words with blanks between; `HEX*N` stands for N times the same.
     Hex(&'static str),
     /// A component file of records, each a PCR and the text that is hashed into it in all banks.
@@ -107,21 +105,10 @@ fn user_log_of(alloc: Global, rows: &[(u8, &'static str)]) -> Result<Vec<u8>, Fa
     Ok(write_seq(alloc, records.as_slice())?)
 }
 
-/// A line, so many times, and a text behind them.
-fn lines_of(alloc: Global, line: &str, count: u32, end: &str) -> Result<Vec<u8>, Fail> {
-    let mut text = String::new(alloc);
-    for _ in 0..count {
-        text.push_str(line)?;
-    }
-    text.push_str(end)?;
-    Ok(text.into_bytes())
-}
-
 /// The bytes of a content.
 fn content_bytes(alloc: Global, content: &Content) -> Result<Vec<u8>, Fail> {
     match content {
         Content::Text(text) => Ok(Vec::from_slice(alloc, text.as_bytes())?),
-        Content::Lines(line, count, end) => lines_of(alloc, line, *count, end),
         Content::Hex(text) => bytes_of(alloc, text),
         Content::Component(rows) => component_of(alloc, rows),
         Content::User(rows) => user_log_of(alloc, rows),
