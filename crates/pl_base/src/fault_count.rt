@@ -3,7 +3,9 @@ ghost use Rattle.pl_base.specs.Faults.{HasCause};
 
 use std::marker::Model;
 
-/// How often an object failed. The count stays at its greatest value once it reaches it.
+/// How often an object failed, from 0 to 2^64 - 1. The count stays at its greatest value once it
+/// reaches it. An adapter of `Files`, `Sink` or `Entropy` keeps one for each kind of fault: what
+/// `rise` and `counted` ensure is what those traits ask of a count.
 #[derive(Debug, Drop)]
 pub struct FaultCount {
     count: u64,

@@ -1,4 +1,4 @@
-ghost use Rattle.std.specs.Prelude.{◌≡◌, ◌<◌, ◌≤◌, ℕ, Option, Some, List as Sequence, length, Err, IfOk};
+ghost use Rattle.std.specs.Prelude.{◌≡◌, ◌<◌, ◌≤◌, ◌+◌, ℕ, Option, Some, List as Sequence, length, Err, IfOk};
 ghost use Rattle.std.specs.FinMap.{get, insert, remove};
 ghost use Rattle.pl_base.specs.Faults.{HasCause};
 ghost use Rattle.pl_base.specs.FileMap.{FileMap};
@@ -70,9 +70,17 @@ pub trait Files {
     /// How often a call failed.
     ghost faults: { Self → ℕ };
 
+    /// How often a call failed that changes nothing: `read` or `list`.
+    ghost readings: { Self → ℕ };
+
+    /// How often a call failed that changes the files: `replace` or `remove`.
+    ghost changes: { Self → ℕ };
+
     /// The bytes of the file at the path. Nothing changes.
     fn read(&mut self, alloc: Global, path: &str, limit: u64) -> Result<Vec<u8>, ReadError>
         ensures cause { HasCause (faults self.old) (faults self.new) (result ≡ Err ReadError.Failed) }
+        ensures reading { HasCause (readings self.old) (readings self.new) (result ≡ Err ReadError.Failed) }
+        ensures no_change { changes self.new ≡ changes self.old }
         ensures bounded { IsBounded limit result }
         ensures told { (files : FileMap) → held self.old ≡ Some files → ReadGives (get files path.now) limit result }
         ensures same { held self.new ≡ held self.old };
@@ -80,6 +88,8 @@ pub trait Files {
     /// What stands directly below the path, in the order of the names' bytes. Nothing changes.
     fn list(&mut self, alloc: Global, path: &str, limit: u32) -> Result<List<Entry>, ListError>
         ensures cause { HasCause (faults self.old) (faults self.new) (result ≡ Err ListError.Failed) }
+        ensures reading { HasCause (readings self.old) (readings self.new) (result ≡ Err ListError.Failed) }
+        ensures no_change { changes self.new ≡ changes self.old }
         ensures bounded { IsShort limit result }
         ensures told { (files : FileMap) → held self.old ≡ Some files → ListGives files path.now limit result }
         ensures same { held self.new ≡ held self.old };
@@ -87,10 +97,17 @@ pub trait Files {
     /// Sets the bytes of the path. After `Failed` the file is the old or the new one.
     fn replace(&mut self, alloc: Global, path: &str, bytes: &[u8]) -> Result<(), ReplaceError>
         ensures cause { HasCause (faults self.old) (faults self.new) (result ≡ Err ReplaceError.Failed) }
+        ensures change { HasCause (changes self.old) (changes self.new) (result ≡ Err ReplaceError.Failed) }
+        ensures no_reading { readings self.new ≡ readings self.old }
         ensures told { (files : FileMap) → held self.old ≡ Some files → ReplaceLeaves files (insert files path.now bytes.now) result (held self.new) };
 
     /// Takes the file out. After `Failed` it is there as before, or gone.
     fn remove(&mut self, alloc: Global, path: &str) -> Result<(), RemoveError>
         ensures cause { HasCause (faults self.old) (faults self.new) (result ≡ Err RemoveError.Failed) }
+        ensures change { HasCause (changes self.old) (changes self.new) (result ≡ Err RemoveError.Failed) }
+        ensures no_reading { readings self.new ≡ readings self.old }
         ensures told { (files : FileMap) → held self.old ≡ Some files → RemoveLeaves files path.now result (held self.new) };
+
+    /// Each fault is of one kind.
+    ghost kinds: { (files : Self) → faults files ≡ readings files + changes files };
 }

@@ -8,6 +8,7 @@ mod entropy;
 mod fail;
 mod fault_count;
 mod files;
+mod folders;
 mod list;
 mod list_entropy;
 mod listing;
@@ -24,7 +25,9 @@ mod small;
 
 pub use entropy::{Entropy, Failed};
 pub use fail::Fail;
+pub use fault_count::FaultCount;
 pub use files::{Entry, Files, ListError, ReadError, RemoveError, ReplaceError};
+pub use folders::{folder_of, last_cut, make_folder_of, sync_folder_of};
 pub use list::List;
 pub use list_entropy::ListEntropy;
 pub use mem_files::MemFiles;

@@ -1,4 +1,4 @@
-ghost use Rattle.std.specs.Prelude.{◌≡◌, ◌≢◌, ◌⊎◌, Option, Some, None, IsSome, [], Err, Ok, IsOk, IfSome, MatchResult, option_copied, MatchBool, ℕ, List as Sequence, if◌then◌else◌};
+ghost use Rattle.std.specs.Prelude.{◌≡◌, ◌≢◌, ◌⊎◌, ◌+◌, ◌-◌, ◌^◌, min, refl, Option, Some, None, IsSome, [], Err, Ok, IsOk, IfSome, MatchResult, option_copied, MatchBool, ℕ, List as Sequence, if◌then◌else◌};
 ghost use Rattle.std.specs.FinMap.{empty, get, insert, remove};
 ghost use Rattle.pl_base.specs.Calls.{planned, FollowsPlan};
 ghost use Rattle.pl_base.specs.FileAnswers.{ReadGives, IsBounded, ListGives, IsShort, ReplaceLeaves, RemoveLeaves};
@@ -6,6 +6,7 @@ ghost use Rattle.pl_base.specs.FileMap.{FileMap};
 ghost use Rattle.pl_base.specs.Faults.{HasCause};
 ghost use Rattle.pl_base.specs.MemoryFiles.{files_of};
 
+use crate::fault_count::FaultCount;
 use crate::listing::listing;
 use crate::schedule::Schedule;
 use crate::{Entry, Fail, Files, List, ListError, Memory, ReadError, RemoveError, ReplaceError};
@@ -19,6 +20,8 @@ pub struct MemFiles {
     alloc: Global,
     files: BTreeMap<String, Vec<u8>>,
     schedule: Schedule,
+    readings: FaultCount,
+    changes: FaultCount,
 }
 
 impl Model for MemFiles {
@@ -28,7 +31,7 @@ impl Model for MemFiles {
 
     ghost coded = { memory_files_code };
 
-    ghost view = { λ a. record { held = files_of a.files.entries; calls = a.schedule } };
+    ghost view = { λ a. record { held = files_of a.files.entries; calls = a.schedule; readings = a.readings; changes = a.changes } };
 }
 
 /// Sets the bytes of a path.
@@ -85,12 +88,14 @@ fn copy_of(alloc: Global, file: Option<&[u8]>, limit: u64) -> Result<Vec<u8>, Re
 impl MemFiles {
     /// No files, and these calls of `read`, `list`, `replace` and `remove` fail.
     pub fn new(alloc: Global, fails: List<Fail>) -> MemFiles
-        ensures { result ≡ record { held = empty; calls = record { fails = fails; made = 0; faults = 0 } } }
+        ensures { result ≡ record { held = empty; calls = record { fails = fails; made = 0; faults = 0 }; readings = 0; changes = 0 } }
     {
         MemFiles {
             alloc,
             files: BTreeMap::new(alloc),
             schedule: Schedule::new(fails),
+            readings: FaultCount::new(),
+            changes: FaultCount::new(),
         }
     }
 
@@ -125,50 +130,85 @@ impl MemFiles {
     {
         take_file(&mut self.files, path)
     }
+
+    /// Counts a fault of `read` or `list`.
+    fn fail_reading(&mut self)
+        ensures rose { HasCause self.old.readings self.new.readings (Unit {0}) }
+        ensures total { HasCause (self.old.readings + self.old.changes) (self.new.readings + self.new.changes) (Unit {0}) }
+        ensures call { HasCause self.old.calls.faults self.new.calls.faults (Unit {0}) }
+        ensures value { self.new ≡ record self.old { calls = record self.old.calls { faults = min (self.old.calls.faults + 1) (2 ^ 64 - 1) }; readings = min (self.old.readings + 1) (2 ^ 64 - 1) } }
+    {
+        self.schedule.fault();
+        self.readings.rise();
+    }
+
+    /// Counts a fault of `replace` or `remove`.
+    fn fail_change(&mut self)
+        ensures rose { HasCause self.old.changes self.new.changes (Unit {0}) }
+        ensures total { HasCause (self.old.readings + self.old.changes) (self.new.readings + self.new.changes) (Unit {0}) }
+        ensures call { HasCause self.old.calls.faults self.new.calls.faults (Unit {0}) }
+        ensures value { self.new ≡ record self.old { calls = record self.old.calls { faults = min (self.old.calls.faults + 1) (2 ^ 64 - 1) }; changes = min (self.old.changes + 1) (2 ^ 64 - 1) } }
+    {
+        self.schedule.fault();
+        self.changes.rise();
+    }
 }
 
 impl Files for MemFiles {
     ghost held = { λ files. Some files.held };
 
-    ghost faults = { λ files. files.calls.faults };
+    ghost faults = { λ files. files.readings + files.changes };
+
+    ghost readings = { λ files. files.readings };
+
+    ghost changes = { λ files. files.changes };
 
     fn read(&mut self, alloc: Global, path: &str, limit: u64) -> Result<Vec<u8>, ReadError>
-        ensures cause { HasCause self.old.calls.faults self.new.calls.faults (result ≡ Err ReadError.Failed) }
+        ensures cause { HasCause (self.old.readings + self.old.changes) (self.new.readings + self.new.changes) (result ≡ Err ReadError.Failed) }
+        ensures reading { HasCause self.old.readings self.new.readings (result ≡ Err ReadError.Failed) }
+        ensures no_change { self.new.changes ≡ self.old.changes }
+        ensures counts { HasCause self.old.calls.faults self.new.calls.faults (result ≡ Err ReadError.Failed) }
         ensures bounded { IsBounded limit result }
         ensures told { (files : FileMap) → Some self.old.held ≡ Some files → ReadGives (get files path.now) limit result }
         ensures same { Some self.new.held ≡ Some self.old.held }
         ensures plan { FollowsPlan self.old.calls self.new.calls (result ≡ Err ReadError.Failed) (IsOk result) }
-        ensures still { ¬ (result ≡ Err ReadError.Failed) → self.new.calls.faults ≡ self.old.calls.faults }
+        ensures still { ¬ (result ≡ Err ReadError.Failed) → (self.new.calls.faults ≡ self.old.calls.faults) × (self.new.readings ≡ self.old.readings) }
         ensures each { IsSome (planned self.old.calls) → result ≡ Err ReadError.Failed }
     {
         if self.schedule.next_call().is_some() {
-            self.schedule.fault();
+            self.fail_reading();
             return Err(ReadError::Failed);
         }
         copy_of(alloc, file_at(&self.files, path), limit)
     }
 
     fn list(&mut self, alloc: Global, path: &str, limit: u32) -> Result<List<Entry>, ListError>
-        ensures cause { HasCause self.old.calls.faults self.new.calls.faults (result ≡ Err ListError.Failed) }
+        ensures cause { HasCause (self.old.readings + self.old.changes) (self.new.readings + self.new.changes) (result ≡ Err ListError.Failed) }
+        ensures reading { HasCause self.old.readings self.new.readings (result ≡ Err ListError.Failed) }
+        ensures no_change { self.new.changes ≡ self.old.changes }
+        ensures counts { HasCause self.old.calls.faults self.new.calls.faults (result ≡ Err ListError.Failed) }
         ensures bounded { IsShort limit result }
         ensures told { (files : FileMap) → Some self.old.held ≡ Some files → ListGives files path.now limit result }
         ensures same { Some self.new.held ≡ Some self.old.held }
         ensures plan { FollowsPlan self.old.calls self.new.calls (result ≡ Err ListError.Failed) (IsOk result) }
-        ensures still { ¬ (result ≡ Err ListError.Failed) → self.new.calls.faults ≡ self.old.calls.faults }
+        ensures still { ¬ (result ≡ Err ListError.Failed) → (self.new.calls.faults ≡ self.old.calls.faults) × (self.new.readings ≡ self.old.readings) }
         ensures each { IsSome (planned self.old.calls) → result ≡ Err ListError.Failed }
     {
         if self.schedule.next_call().is_some() {
-            self.schedule.fault();
+            self.fail_reading();
             return Err(ListError::Failed);
         }
         listing(&self.files, alloc, path, limit)
     }
 
     fn replace(&mut self, alloc: Global, path: &str, bytes: &[u8]) -> Result<(), ReplaceError>
-        ensures cause { HasCause self.old.calls.faults self.new.calls.faults (result ≡ Err ReplaceError.Failed) }
+        ensures cause { HasCause (self.old.readings + self.old.changes) (self.new.readings + self.new.changes) (result ≡ Err ReplaceError.Failed) }
+        ensures change { HasCause self.old.changes self.new.changes (result ≡ Err ReplaceError.Failed) }
+        ensures no_reading { self.new.readings ≡ self.old.readings }
+        ensures counts { HasCause self.old.calls.faults self.new.calls.faults (result ≡ Err ReplaceError.Failed) }
         ensures told { (files : FileMap) → Some self.old.held ≡ Some files → ReplaceLeaves files (insert files path.now bytes.now) result (Some self.new.held) }
         ensures plan { FollowsPlan self.old.calls self.new.calls (result ≡ Err ReplaceError.Failed) (IsOk result) }
-        ensures still { ¬ (result ≡ Err ReplaceError.Failed) → self.new.calls.faults ≡ self.old.calls.faults }
+        ensures still { ¬ (result ≡ Err ReplaceError.Failed) → (self.new.calls.faults ≡ self.old.calls.faults) × (self.new.changes ≡ self.old.changes) }
         ensures each { IsSome (planned self.old.calls) → (result ≡ Err ReplaceError.Failed) ⊎ (result ≡ Err ReplaceError.Memory) }
         ensures done { IfSome (planned self.old.calls) (λ fail. result ≡ Err ReplaceError.Failed → self.new.held ≡ (if fail.done then insert self.old.held path.now bytes.now else self.old.held)) }
     {
@@ -178,17 +218,20 @@ impl Files for MemFiles {
                 if fail.done {
                     self.set(path, bytes)?;
                 }
-                self.schedule.fault();
+                self.fail_change();
                 Err(ReplaceError::Failed)
             }
         }
     }
 
     fn remove(&mut self, _alloc: Global, path: &str) -> Result<(), RemoveError>
-        ensures cause { HasCause self.old.calls.faults self.new.calls.faults (result ≡ Err RemoveError.Failed) }
+        ensures cause { HasCause (self.old.readings + self.old.changes) (self.new.readings + self.new.changes) (result ≡ Err RemoveError.Failed) }
+        ensures change { HasCause self.old.changes self.new.changes (result ≡ Err RemoveError.Failed) }
+        ensures no_reading { self.new.readings ≡ self.old.readings }
+        ensures counts { HasCause self.old.calls.faults self.new.calls.faults (result ≡ Err RemoveError.Failed) }
         ensures told { (files : FileMap) → Some self.old.held ≡ Some files → RemoveLeaves files path.now result (Some self.new.held) }
         ensures plan { FollowsPlan self.old.calls self.new.calls (result ≡ Err RemoveError.Failed) (IsOk result) }
-        ensures still { ¬ (result ≡ Err RemoveError.Failed) → self.new.calls.faults ≡ self.old.calls.faults }
+        ensures still { ¬ (result ≡ Err RemoveError.Failed) → (self.new.calls.faults ≡ self.old.calls.faults) × (self.new.changes ≡ self.old.changes) }
         ensures each { IsSome (planned self.old.calls) → result ≡ Err RemoveError.Failed }
         ensures done { IfSome (planned self.old.calls) (λ fail. result ≡ Err RemoveError.Failed → self.new.held ≡ (if fail.done then remove self.old.held path.now else self.old.held)) }
     {
@@ -204,11 +247,13 @@ impl Files for MemFiles {
                 if fail.done {
                     self.take(path);
                 }
-                self.schedule.fault();
+                self.fail_change();
                 Err(RemoveError::Failed)
             }
         }
     }
+
+    ghost kinds = { λ _. refl };
 }
 
 #[cfg(test)]

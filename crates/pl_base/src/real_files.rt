@@ -1,10 +1,11 @@
-ghost use Rattle.std.specs.Prelude.{◌≡◌, ◌≤◌, ℕ, Option, None, Some, Err, IfOk, IsErr, vec_len};
+ghost use Rattle.std.specs.Prelude.{◌≡◌, ◌≤◌, ◌+◌, refl, ℕ, Option, None, Some, Err, IfOk, IsErr, vec_len};
 ghost use Rattle.std.specs.FinMap.{get, insert};
 ghost use Rattle.pl_base.specs.Faults.{HasCause};
 ghost use Rattle.pl_base.specs.FileMap.{FileMap};
 ghost use Rattle.pl_base.specs.FileAnswers.{ReadGives, IsBounded, ListGives, IsShort, ReplaceLeaves, RemoveLeaves};
 
 use crate::fault_count::FaultCount;
+use crate::folders::make_folder_of;
 use crate::{Entry, Files, List, ListError, Name, ReadError, RemoveError, ReplaceError};
 use std::alloc::Global;
 use std::fs::{DirEntry, OpenFile, OpenOptions, ReadDir};
@@ -19,7 +20,8 @@ const OWNER_ONLY: u32 = 0o600;
 #[derive(Drop)]
 pub struct RealFiles<R> {
     files: R,
-    faults: FaultCount,
+    readings: FaultCount,
+    changes: FaultCount,
 }
 
 /// Reads to the end of the file, whatever length the system tells. Past the limit the bytes are
@@ -151,9 +153,7 @@ fn replace_file<R: rt::Files>(
 
 /// Makes the folders that the path lacks, and a new file beside it with these bytes.
 fn write_new<R: rt::Files>(files: &R, path: &str, beside: &str, bytes: &[u8]) -> io::Result<()> {
-    if let Some((folder, _)) = path.rsplit_once('/') {
-        fs::create_dir_all(files, folder)?;
-    }
+    make_folder_of(files, path)?;
     remove_leftover(files, beside)?;
     let mut file = OpenOptions::new()
         .write(true)
@@ -186,7 +186,8 @@ impl<R: rt::Files> RealFiles<R> {
     pub fn new(files: R) -> RealFiles<R> {
         RealFiles {
             files,
-            faults: FaultCount::new(),
+            readings: FaultCount::new(),
+            changes: FaultCount::new(),
         }
     }
 }
@@ -194,47 +195,61 @@ impl<R: rt::Files> RealFiles<R> {
 impl<R: rt::Files> Files for RealFiles<R> {
     ghost held = { λ _. None };
 
-    ghost faults = { λ files. files.faults };
+    ghost faults = { λ files. files.readings + files.changes };
+
+    ghost readings = { λ files. files.readings };
+
+    ghost changes = { λ files. files.changes };
 
     fn read(&mut self, alloc: Global, path: &str, limit: u64) -> Result<Vec<u8>, ReadError>
-        ensures cause { HasCause self.old.faults self.new.faults (result ≡ Err ReadError.Failed) }
-        ensures counts { HasCause self.old.faults self.new.faults (IsErr result) }
+        ensures cause { HasCause (self.old.readings + self.old.changes) (self.new.readings + self.new.changes) (result ≡ Err ReadError.Failed) }
+        ensures reading { HasCause self.old.readings self.new.readings (result ≡ Err ReadError.Failed) }
+        ensures no_change { self.new.changes ≡ self.old.changes }
+        ensures counts { HasCause self.old.readings self.new.readings (IsErr result) }
         ensures bounded { IsBounded limit result }
         ensures told { (files : FileMap) → None ≡ Some files → ReadGives (get files path.now) limit result }
         ensures same { ◌≡◌ {A = Option FileMap} None None }
     {
         let outcome = read_file(&self.files, alloc, path, limit);
-        self.faults.counted(outcome)
+        self.readings.counted(outcome)
     }
 
     fn list(&mut self, alloc: Global, path: &str, limit: u32) -> Result<List<Entry>, ListError>
-        ensures cause { HasCause self.old.faults self.new.faults (result ≡ Err ListError.Failed) }
-        ensures counts { HasCause self.old.faults self.new.faults (IsErr result) }
+        ensures cause { HasCause (self.old.readings + self.old.changes) (self.new.readings + self.new.changes) (result ≡ Err ListError.Failed) }
+        ensures reading { HasCause self.old.readings self.new.readings (result ≡ Err ListError.Failed) }
+        ensures no_change { self.new.changes ≡ self.old.changes }
+        ensures counts { HasCause self.old.readings self.new.readings (IsErr result) }
         ensures bounded { IsShort limit result }
         ensures told { (files : FileMap) → None ≡ Some files → ListGives files path.now limit result }
         ensures same { ◌≡◌ {A = Option FileMap} None None }
     {
         let outcome = list_folder(&self.files, alloc, path, limit);
-        self.faults.counted(outcome)
+        self.readings.counted(outcome)
     }
 
     fn replace(&mut self, alloc: Global, path: &str, bytes: &[u8]) -> Result<(), ReplaceError>
-        ensures cause { HasCause self.old.faults self.new.faults (result ≡ Err ReplaceError.Failed) }
-        ensures counts { HasCause self.old.faults self.new.faults (IsErr result) }
+        ensures cause { HasCause (self.old.readings + self.old.changes) (self.new.readings + self.new.changes) (result ≡ Err ReplaceError.Failed) }
+        ensures change { HasCause self.old.changes self.new.changes (result ≡ Err ReplaceError.Failed) }
+        ensures no_reading { self.new.readings ≡ self.old.readings }
+        ensures counts { HasCause self.old.changes self.new.changes (IsErr result) }
         ensures told { (files : FileMap) → None ≡ Some files → ReplaceLeaves files (insert files path.now bytes.now) result None }
     {
         let outcome = replace_file(&self.files, alloc, path, bytes);
-        self.faults.counted(outcome)
+        self.changes.counted(outcome)
     }
 
     fn remove(&mut self, _alloc: Global, path: &str) -> Result<(), RemoveError>
-        ensures cause { HasCause self.old.faults self.new.faults (result ≡ Err RemoveError.Failed) }
-        ensures counts { HasCause self.old.faults self.new.faults (IsErr result) }
+        ensures cause { HasCause (self.old.readings + self.old.changes) (self.new.readings + self.new.changes) (result ≡ Err RemoveError.Failed) }
+        ensures change { HasCause self.old.changes self.new.changes (result ≡ Err RemoveError.Failed) }
+        ensures no_reading { self.new.readings ≡ self.old.readings }
+        ensures counts { HasCause self.old.changes self.new.changes (IsErr result) }
         ensures told { (files : FileMap) → None ≡ Some files → RemoveLeaves files path.now result None }
     {
         let outcome = remove_file(&self.files, path);
-        self.faults.counted(outcome)
+        self.changes.counted(outcome)
     }
+
+    ghost kinds = { λ _. refl };
 }
 
 #[cfg(test)]
@@ -280,10 +295,14 @@ mod tests {
         fs::write(&rt, "real_files_test/deep/a-b.new", "left over")?;
         files.replace(alloc, "real_files_test/deep/a-b", b"text")?;
         files.replace(alloc, "real_files_test/deep/a/x", b"")?;
-        let mode = fs::metadata(&rt, "real_files_test/deep/a-b")?
-            .permissions()
-            .mode();
-        assert_eq!(rt; mode & 0o777, 0o600);
+        for (made, expected) in [
+            ("real_files_test/deep/a-b", 0o600),
+            ("real_files_test/deep", 0o700),
+            ("real_files_test", 0o700),
+        ] {
+            let mode = fs::metadata(&rt, made)?.permissions().mode();
+            assert_eq!(rt; mode & 0o777, expected);
+        }
 
         assert!(rt; has_bytes(&mut files, alloc, "real_files_test/deep/a-b", b"text"));
         assert!(rt; has_bytes(&mut files, alloc, "real_files_test/deep/a/x", b""));
