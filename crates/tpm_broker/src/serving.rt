@@ -81,13 +81,15 @@ pub fn serve<T: Tpm>(
     ensures stopped { (s : Parts) → T.live tpm.old ≡ Some s → IfErr result (λ stop.
         (n : ℕ) × (n ≤ length asked.now) × (broker.new ≡ clients_left (take n asked.now) broker.old s)
         × (stop ≡ ExecError.Memory → T.live tpm.new ≡ Some (state_left (take n asked.now) broker.old s))) }
-    ensures rules { (s : Parts) → T.live tpm.old ≡ Some s → HasRules s → IfSome (T.live tpm.new) HasRules }
+    ensures rules { (s : Parts) → T.live tpm.old ≡ Some s → IfSome (T.live tpm.new) HasRules }
     ensures stored { (s : Parts) → T.live tpm.old ≡ Some s → T.stored tpm.old ≡ Some (Holds s) → ListStores asked.now broker.old s result (T.stored tpm.new) }
     ensures count { length broker.new ≡ length broker.old }
-    ensures as_alone { (s : Parts) → T.live tpm.old ≡ Some s → HasRules s → broker.old ≡ replicate (length broker.old) new_client
+    ensures as_alone { (s : Parts) → T.live tpm.old ≡ Some s → broker.old ≡ replicate (length broker.old) new_client
         → length s.sessions + 4 * length broker.old ≤ 64 → s.next_session + sessions_started asked.now broker.old s ≤ 0x01000000
         → IfOk result (λ responses. (k : ℕ) → k < length broker.old → at_places k asked.now responses ≡ alone k asked.now (without_sessions s)) }
 {
+    let ready = tpm.is_ready();
+    prove!(ready);
     let mut responses = List::new(alloc);
     for one in asked {
         match serve_next(alloc, broker, one, tpm, &mut responses) {

@@ -1,5 +1,5 @@
 //! The trait of the device.
-ghost use Rattle.std.specs.Prelude.{◌≡◌, ℕ, Bool, true, false, Option, Some, is_ok, Err, IfOk, IfSome};
+ghost use Rattle.std.specs.Prelude.{◌≡◌, ℕ, Bool, true, false, Option, Some, is_ok, is_some, Err, IfOk};
 ghost use Rattle.pl_base.specs.Faults.{HasCause};
 ghost use Rattle.tpm_model.specs.declared.parts.Parts.{Parts};
 ghost use Rattle.tpm_model.specs.Fits.{fits};
@@ -35,8 +35,8 @@ pub enum ExecError {
 
 /// A TPM that executes commands.
 pub trait Tpm {
-    /// The state that the commands meet, where it is told: from an accepted `begin` until a
-    /// failure.
+    /// The state that the commands meet, which is told while the device is ready: from an accepted
+    /// `begin` until a failure. It has the rules of a state.
     ghost live: { Self → Option Parts };
 
     /// What is stored, where it is told.
@@ -53,11 +53,15 @@ pub trait Tpm {
         ensures cause { HasCause (faults self.old) (faults self.new) (result ≡ Err BeginError.Failed) }
         ensures readiness { ready self.new ≡ is_ok result }
         ensures told { (kept : Stored) → stored self.old ≡ Some kept → BeginGives kept result (live self.new) }
-        ensures same { stored self.new ≡ stored self.old };
+        ensures same { stored self.new ≡ stored self.old }
+        ensures live { IfOk result (λ _. is_some (live self.new) ≡ true) }
+        ensures rules { (s : Parts) → live self.new ≡ Some s → HasRules s };
 
     /// Whether commands may be executed.
     fn is_ready(&self) -> bool
-        ensures { result ≡ ready self.now };
+        ensures value { result ≡ ready self.now }
+        ensures live { ready self.now ≡ true → is_some (live self.now) ≡ true }
+        ensures rules { (s : Parts) → live self.now ≡ Some s → HasRules s };
 
     /// Executes a command on the live state. An answer fits the command. After a failure the device
     /// isn't ready, and what is stored is the state before or the next one; else it stays ready.
@@ -67,6 +71,8 @@ pub trait Tpm {
         ensures fitting { IfOk result (λ answer. fits command.now answer ≡ true) }
         ensures readiness { ready self.new ≡ stays_ready result }
         ensures told { (s : Parts) → live self.old ≡ Some s → ExecuteGives command.now s result (ready self.new) (live self.new) }
-        ensures rules { (s : Parts) → live self.old ≡ Some s → HasRules s → IfSome (live self.new) HasRules }
+        ensures live { is_some (live self.old) ≡ true }
+        ensures rules { (s : Parts) → live self.old ≡ Some s → HasRules s }
+        ensures next { (s : Parts) → live self.new ≡ Some s → HasRules s }
         ensures stored { (s : Parts) → live self.old ≡ Some s → stored self.old ≡ Some (Holds s) → ExecuteStores command.now s result (stored self.new) };
 }

@@ -1,5 +1,5 @@
 //! A TPM in memory.
-ghost use Rattle.std.specs.Prelude.{◌≡◌, ℕ, Bool, true, false, if◌then◌else◌, ◌≢◌, Option, Some, is_ok, IsOk, Err, IfOk, IfErr, IfSome};
+ghost use Rattle.std.specs.Prelude.{◌≡◌, ℕ, Bool, true, false, if◌then◌else◌, ◌≢◌, Option, Some, is_ok, is_some, IsOk, Err, IfOk, IfErr, IfSome};
 ghost use Rattle.pl_base.specs.Calls.{FollowsPlan, planned};
 ghost use Rattle.pl_base.specs.Faults.{HasCause};
 ghost use Rattle.tpm_model.specs.declared.parts.Parts.{Parts};
@@ -26,11 +26,14 @@ pub struct SoftTpm {
 }
 
 impl Model for SoftTpm {
+    ghost use Rattle.tpm_model.specs.Rules.{HasRules};
     ghost use Rattle.tpm_device.specs.SoftDevice.{SoftDevice};
 
     ghost Value = { SoftDevice };
 
     ghost view = { λ a. record { state = a.state; calls = a.schedule; ready = a.ready } };
+
+    ghost invariant = { λ a. HasRules a.state };
 }
 
 impl SoftTpm {
@@ -38,6 +41,7 @@ impl SoftTpm {
     pub fn new(state: State, fails: List<Fail>) -> SoftTpm
         ensures { result ≡ record { state = state; calls = record { fails = fails; made = 0; faults = 0 }; ready = false } }
     {
+        let _values = state.pcrs(); // tells that the state has its rules
         SoftTpm {
             state,
             schedule: Schedule::new(fails),
@@ -76,6 +80,8 @@ impl Tpm for SoftTpm {
         ensures readiness { self.new.ready ≡ is_ok result }
         ensures told { (kept : Stored) → Some (Holds self.old.state) ≡ Some kept → BeginGives kept result (Some self.new.state) }
         ensures same { Some (Holds self.new.state) ≡ Some (Holds self.old.state) }
+        ensures live { IfOk result (λ _. is_some (Some self.new.state) ≡ true) }
+        ensures rules { (s : Parts) → Some self.new.state ≡ Some s → HasRules s }
         ensures plan { FollowsPlan self.old.calls self.new.calls (result ≡ Err BeginError.Failed) (IsOk result) }
         // It has no other refusal than a planned failure.
         ensures refusal { IfErr result (λ error. error ≡ BeginError.Failed) }
@@ -103,7 +109,9 @@ impl Tpm for SoftTpm {
         ensures fitting { IfOk result (λ answer. fits command.now answer ≡ true) }
         ensures readiness { self.new.ready ≡ stays_ready result }
         ensures told { (s : Parts) → Some self.old.state ≡ Some s → ExecuteGives command.now s result self.new.ready (Some self.new.state) }
-        ensures rules { (s : Parts) → Some self.old.state ≡ Some s → HasRules s → IfSome (Some self.new.state) HasRules }
+        ensures live { is_some (Some self.old.state) ≡ true }
+        ensures rules { (s : Parts) → Some self.old.state ≡ Some s → HasRules s }
+        ensures next { (s : Parts) → Some self.new.state ≡ Some s → HasRules s }
         ensures stored { (s : Parts) → Some self.old.state ≡ Some s → Some (Holds self.old.state) ≡ Some (Holds s) → ExecuteStores command.now s result (Some (Holds self.new.state)) }
         ensures plan { FollowsPlan self.old.calls self.new.calls (result ≡ Err ExecError.Failed) (IsOk result) }
         // Memory runs out only for a command that takes some.

@@ -1,5 +1,5 @@
 //! A TPM that is kept in a file.
-ghost use Rattle.std.specs.Prelude.{◌≡◌, ◌≢◌, ◌⊎◌, ◌≤◌, ◌↔◌, ℕ, Bool, true, false, Option, None, Some, is_some, is_ok, Ok, Err, IfOk, IfErr, IfSome, length, MatchOption};
+ghost use Rattle.std.specs.Prelude.{◌≡◌, ◌≢◌, ◌⊎◌, ◌≤◌, ◌↔◌, ℕ, Bool, true, false, Option, None, Some, is_some, is_ok, Ok, Err, IfOk, IfErr, length, MatchOption};
 ghost use Rattle.std.specs.FinMap.{get, insert};
 ghost use Rattle.pl_base.specs.Faults.{HasCause};
 ghost use Rattle.pl_base.specs.FileAnswers.{ReplaceLeaves};
@@ -14,7 +14,8 @@ ghost use Rattle.tpm_state.specs.declared.version.Version.TheVariants.{Two};
 ghost use Rattle.tpm_state.specs.Layout.{text_of};
 ghost use Rattle.tpm_state.specs.Decoding.{state_of};
 ghost use Rattle.tpm_state.specs.Looking.{looks_only};
-ghost use Rattle.tpm_state.specs.Storing.{all_banks, stored_as, stored_by, stored_in, StateGives, StoreLeaves, StoresText};
+ghost use Rattle.tpm_state.specs.Spelling.{IsSpelled};
+ghost use Rattle.tpm_state.specs.Storing.{all_banks, most_bytes, stored_as, stored_by, stored_in, StateGives, StoreLeaves, StoresText};
 
 use crate::kept::Kept;
 use crate::{DecodeError, decode};
@@ -63,16 +64,31 @@ fn fresh_state(alloc: Global) -> State
     State::fresh(alloc, Banks::all())
 }
 
-/// The state that a file's bytes hold.
-fn state_in(alloc: Global, bytes: &[u8]) -> Result<State, BeginError>
-    ensures told { StateGives (stored_as (state_of bytes.now)) result }
+/// The state that a file's bytes hold, beside its text.
+fn state_in(alloc: Global, bytes: Vec<u8>) -> Result<Kept, BeginError>
+    requires short { length bytes.items ≤ most_bytes }
+    ensures told { StateGives (stored_as (state_of bytes.items)) result }
     ensures fine { result ≢ Err BeginError.Failed }
 {
-    match decode(alloc, bytes) {
-        Ok(state) => Ok(state),
+    match decode(alloc, bytes.as_slice()) {
+        Ok(state) => as_read(alloc, bytes, state),
         Err(DecodeError::Malformed(place)) => Err(BeginError::Malformed(place)),
         Err(DecodeError::BadRule(rule)) => Err(BeginError::BadRule(rule)),
         Err(DecodeError::Memory) => Err(BeginError::Memory),
+    }
+}
+
+/// The state that bytes spell, beside its text.
+fn as_read(alloc: Global, bytes: Vec<u8>, state: State) -> Result<Kept, BeginError>
+    requires spelled { IsSpelled bytes.items state }
+    requires short { length bytes.items ≤ most_bytes }
+    requires read { state_of bytes.items ≡ Ok state }
+    ensures told { IfOk result (λ kept. kept ≡ state) }
+    ensures fine { IfErr result (λ error. error ≡ BeginError.Memory) }
+{
+    match Kept::read(alloc, bytes, state) {
+        Ok(kept) => Ok(kept),
+        Err(_) => Err(BeginError::Memory),
     }
 }
 
@@ -94,10 +110,7 @@ fn stored_state<F: Files>(files: &mut F, alloc: Global, path: &str) -> Result<Ke
     ensures same { F.held files.new ≡ F.held files.old }
 {
     match files.read(alloc, path, LIMIT) {
-        Ok(bytes) => match state_in(alloc, bytes.as_slice()) {
-            Ok(state) => with_text(alloc, state),
-            Err(error) => Err(error),
-        },
+        Ok(bytes) => state_in(alloc, bytes),
         Err(ReadError::Missing) => with_text(alloc, fresh_state(alloc)),
         Err(ReadError::TooLarge(size)) => Err(BeginError::TooLarge(size)),
         Err(ReadError::Failed) => Err(BeginError::Failed),
@@ -153,6 +166,8 @@ impl<F: Files> FileTpm<F> {
         ensures fitting { IfOk result (λ answer. fits command.now answer ≡ true) }
         ensures memory { IfErr result (λ error. error ≡ ExecError.Memory) }
         ensures live { self.new.live ≡ self.old.live }
+        ensures rules { (s : Parts) → self.old.live ≡ Some s → HasRules s }
+        ensures next { (s : Parts) → self.new.live ≡ Some s → HasRules s }
         ensures files { self.new.files ≡ self.old.files }
         ensures path { self.new.path ≡ self.old.path }
     {
@@ -172,7 +187,8 @@ impl<F: Files> FileTpm<F> {
         ensures fitting { IfOk result (λ answer. fits command.now answer ≡ true) }
         ensures readiness { is_some self.new.live ≡ stays_ready result }
         ensures told { (s : Parts) → self.old.live ≡ Some s → ExecuteGives command.now s result (is_some self.new.live) self.new.live }
-        ensures rules { (s : Parts) → self.old.live ≡ Some s → HasRules s → IfSome self.new.live HasRules }
+        ensures rules { (s : Parts) → self.old.live ≡ Some s → HasRules s }
+        ensures next { (s : Parts) → self.new.live ≡ Some s → HasRules s }
         ensures stored { (s : Parts) → self.old.live ≡ Some s → stored_in (F.held self.old.files) self.old.path ≡ Some (Holds s) → ExecuteStores command.now s result (stored_in (F.held self.new.files) self.new.path) }
         // A command that leaves an equal state writes nothing, and the TPM stays in its file.
         ensures quiet { (s : Parts) → self.old.live ≡ Some s → (respond command.now s).1 ≡ s → F.held self.new.files ≡ F.held self.old.files }
@@ -217,14 +233,17 @@ impl<F: Files> Tpm for FileTpm<F> {
         ensures readiness { is_some self.new.live ≡ is_ok result }
         ensures told { (kept : Stored) → stored_in (F.held self.old.files) self.old.path ≡ Some kept → BeginGives kept result self.new.live }
         ensures same { stored_in (F.held self.new.files) self.new.path ≡ stored_in (F.held self.old.files) self.old.path }
+        ensures live { IfOk result (λ _. is_some self.new.live ≡ true) }
+        ensures rules { (s : Parts) → self.new.live ≡ Some s → HasRules s }
         // Nothing is written, and the TPM stays in its file.
         ensures quiet { F.held self.new.files ≡ F.held self.old.files }
         ensures path { self.new.path ≡ self.old.path }
     {
         self.live = None; // until a state is read
         match stored_state(&mut self.files, alloc, self.path.text()) {
-            Ok(state) => {
-                self.live = Some(state);
+            Ok(kept) => {
+                let _state = kept.state(); // tells that the state has its rules
+                self.live = Some(kept);
                 Ok(())
             }
             Err(error) => Err(error),
@@ -232,7 +251,13 @@ impl<F: Files> Tpm for FileTpm<F> {
     }
 
     fn is_ready(&self) -> bool {
-        self.live.is_some()
+        match &self.live {
+            Some(live) => {
+                let _state = live.state(); // tells that the state has its rules
+                true
+            }
+            None => false,
+        }
     }
 
     fn execute(&mut self, alloc: Global, command: &Command) -> Result<Response, ExecError>
@@ -241,7 +266,9 @@ impl<F: Files> Tpm for FileTpm<F> {
         ensures fitting { IfOk result (λ answer. fits command.now answer ≡ true) }
         ensures readiness { is_some self.new.live ≡ stays_ready result }
         ensures told { (s : Parts) → self.old.live ≡ Some s → ExecuteGives command.now s result (is_some self.new.live) self.new.live }
-        ensures rules { (s : Parts) → self.old.live ≡ Some s → HasRules s → IfSome self.new.live HasRules }
+        ensures live { is_some self.old.live ≡ true }
+        ensures rules { (s : Parts) → self.old.live ≡ Some s → HasRules s }
+        ensures next { (s : Parts) → self.new.live ≡ Some s → HasRules s }
         ensures stored { (s : Parts) → self.old.live ≡ Some s → stored_in (F.held self.old.files) self.old.path ≡ Some (Holds s) → ExecuteStores command.now s result (stored_in (F.held self.new.files) self.new.path) }
         // A command that leaves an equal state writes nothing, and the TPM stays in its file.
         ensures quiet { (s : Parts) → self.old.live ≡ Some s → (respond command.now s).1 ≡ s → F.held self.new.files ≡ F.held self.old.files }

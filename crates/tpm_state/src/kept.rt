@@ -1,12 +1,16 @@
 //! A state beside its text, so that a command encodes one state alone.
-ghost use Rattle.std.specs.Prelude.{◌≡◌, ◌↔◌, true, Some, IfOk};
+ghost use Rattle.std.specs.Prelude.{◌≡◌, ◌↔◌, ◌≤◌, true, Some, Ok, IfOk, length};
+ghost use Rattle.tpm_model.specs.declared.parts.Parts.{Parts};
 ghost use Rattle.tpm_model.specs.Fits.{fits};
 ghost use Rattle.tpm_model.specs.Respond.{respond};
+ghost use Rattle.tpm_model.specs.Rules.{HasRules};
 ghost use Rattle.tpm_device.specs.Stored.{Holds};
-ghost use Rattle.tpm_state.specs.declared.version.Version.TheVariants.{Two};
+ghost use Rattle.tpm_state.specs.declared.version.Version.TheVariants.{One, Two};
+ghost use Rattle.tpm_state.specs.Decoding.{state_of};
 ghost use Rattle.tpm_state.specs.Layout.{text_of};
 ghost use Rattle.tpm_state.specs.Looking.{looks_only};
-ghost use Rattle.tpm_state.specs.Storing.{stored_by};
+ghost use Rattle.tpm_state.specs.Spelling.{IsSpelled};
+ghost use Rattle.tpm_state.specs.Storing.{most_bytes, stored_by};
 
 use crate::encode;
 use pl_base::Memory;
@@ -24,6 +28,7 @@ pub(crate) struct Kept {
 impl Model for Kept {
     ghost use Rattle.std.specs.Prelude.{◌≡◌};
     ghost use Rattle.tpm_model.specs.declared.parts.Parts.{Parts};
+    ghost use Rattle.tpm_model.specs.Rules.{HasRules};
     ghost use Rattle.tpm_state.specs.declared.version.Version.TheVariants.{Two};
     ghost use Rattle.tpm_state.specs.Layout.{text_of};
     ghost use Rattle.tpm_state.specs.Storing.{stored_by};
@@ -34,7 +39,14 @@ impl Model for Kept {
 
     ghost view = { λ kept. kept.state };
 
-    ghost invariant = { λ kept. (kept.text.items ≡ text_of Two kept.state) × (stored_by (Some kept.text.items) ≡ Holds kept.state) };
+    ghost invariant = { λ kept. (kept.text.items ≡ text_of Two kept.state) × (stored_by (Some kept.text.items) ≡ Holds kept.state) × HasRules kept.state };
+}
+
+// Whether a state file's bytes are of version 2 of the layout, by the last byte of the magic.
+fn is_of_version_two(bytes: &[u8]) -> bool
+    ensures { result ≡ true → (s : Parts) → ¬ (bytes.now ≡ text_of One s) }
+{
+    bytes.get(7) == Some(&2)
 }
 
 impl Kept {
@@ -43,12 +55,29 @@ impl Kept {
         ensures { IfOk result (λ kept. kept ≡ state) }
     {
         let text = encode(alloc, &state)?;
+        let _values = state.pcrs(); // tells that the state has its rules
         Ok(Kept { state, text })
     }
 
-    /// The state.
+    /// The state that bytes spell, beside its text: the bytes themselves where they are of version 2.
+    pub(crate) fn read(alloc: Global, bytes: Vec<u8>, state: State) -> Result<Kept, Memory>
+        requires spelled { IsSpelled bytes.items state }
+        requires short { length bytes.items ≤ most_bytes }
+        requires read { state_of bytes.items ≡ Ok state }
+        ensures { IfOk result (λ kept. kept ≡ state) }
+    {
+        let _values = state.pcrs(); // tells that the state has its rules
+        if is_of_version_two(bytes.as_slice()) {
+            Ok(Kept { state, text: bytes })
+        } else {
+            Kept::new(alloc, state)
+        }
+    }
+
+    /// The state, which has its rules.
     pub(crate) fn state(&self) -> &State
-        ensures { result.now ≡ self.now }
+        ensures value { result.now ≡ self.now }
+        ensures rules { HasRules self.now }
     {
         &self.state
     }
@@ -67,6 +96,7 @@ impl Kept {
         ensures answered { IfOk result (λ answer. answer ≡ (respond command.now self.old).0) }
         ensures fitting { IfOk result (λ answer. fits command.now answer ≡ true) }
         ensures same { self.new ≡ self.old }
+        ensures rules { HasRules self.old }
     {
         step(alloc, &mut self.state, command)
     }

@@ -35,9 +35,9 @@ loop-one-preserved g c =
       ready = c.in-Ok.ensures.readiness;
       later = omega (arith, c.loop-one.invariant.later, c.in-Ok.ensures.cause.later);
       count = c.in-Ok.ensures.count ∙ c.loop-one.invariant.count;
-      rules = λ s live h.
+      rules = λ s live.
           let so_far = c.loop-one.invariant.told s live in
-          c.in-Ok.ensures.rules (state_left (take i asked) c.args.broker.now s) so_far.state (subst (λ o. IfSome o HasRules) so_far.state (c.loop-one.invariant.rules s live h));
+          c.in-Ok.ensures.rules (state_left (take i asked) c.args.broker.now s) so_far.state (subst (λ o. IfSome o HasRules) so_far.state (c.loop-one.invariant.rules s live));
       stored = λ s live holds.
           let so_far = c.loop-one.invariant.told s live in
           c.in-Ok.ensures.stored (state_left (take i asked) c.args.broker.now s) so_far.state (c.loop-one.invariant.stored s live holds)
@@ -49,20 +49,20 @@ loop-one-preserved g c =
     }
 
 pub returns-clause-as_alone : goal.returns-clause-as_alone
-returns-clause-as_alone g c = λ s live rules new room limit k low.
+returns-clause-as_alone g c = λ s live new room limit k low.
     let n = length c.args.broker.now in
     let asked = c.args.asked.now in
     let all = recursion_from_All (λ (one : ℕ × Command). one.0 < n) asked c.requires.clients in
     let so_far = c.loop-one.invariant.told s live in
     let every : take c.loop-one.one-index asked ≡ asked = take_all c.loop-one.one-index asked c.loop-one-test.false in
     ap (at_places k asked) (so_far.answers ∙ ap (λ xs. answers_to xs c.args.broker.now s) every ∙ ap (λ cs. answers_to asked cs s) new)
-    ∙ clients_alone k n asked s rules low all room (subst (λ cs. s.next_session + sessions_started asked cs s ≤ 0x01000000) new limit)
+    ∙ clients_alone k n asked s (c.is_ready-ready.ensures.rules s live) low all room (subst (λ cs. s.next_session + sessions_started asked cs s ≤ 0x01000000) new limit)
 
 pub returns-in-Err-clause-rules : goal.returns-in-Err-clause-rules
-returns-in-Err-clause-rules g c = λ s live h.
+returns-in-Err-clause-rules g c = λ s live.
     let so_far = c.loop-one.invariant.told s live in
     c.in-Err.ensures.rules (state_left (take c.loop-one.one-index c.args.asked.now) c.args.broker.now s) so_far.state
-    (subst (λ o. IfSome o HasRules) so_far.state (c.loop-one.invariant.rules s live h))
+    (subst (λ o. IfSome o HasRules) so_far.state (c.loop-one.invariant.rules s live))
 
 pub returns-in-Err-clause-stored : goal.returns-in-Err-clause-stored
 returns-in-Err-clause-stored g c = λ s live holds.

@@ -13,7 +13,7 @@ invariant-loop-one g l = record {
   ready : g.T.Tpm.ready l.tpm ≡ true;
   later : g.T.Tpm.faults l.fn.tpm ≤ g.T.Tpm.faults l.tpm;
   count : length l.broker ≡ length l.fn.broker;
-  rules : (s : Parts) → g.T.Tpm.live l.fn.tpm ≡ Some s → HasRules s → IfSome (g.T.Tpm.live l.tpm) HasRules;
+  rules : (s : Parts) → g.T.Tpm.live l.fn.tpm ≡ Some s → IfSome (g.T.Tpm.live l.tpm) HasRules;
   stored : (s : Parts) → g.T.Tpm.live l.fn.tpm ≡ Some s → g.T.Tpm.stored l.fn.tpm ≡ Some (Holds s)
       → g.T.Tpm.stored l.tpm ≡ Some (Holds (state_left (take l.one-index l.asked) l.fn.broker s));
   told : (s : Parts) → g.T.Tpm.live l.fn.tpm ≡ Some s → SoFar (take l.one-index l.asked) l.fn.broker s l.responses l.broker (g.T.Tpm.live l.tpm);

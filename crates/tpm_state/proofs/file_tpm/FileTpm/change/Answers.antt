@@ -16,7 +16,7 @@ pub returns-in-Ok-store-clause-files : goal.returns-in-Ok-store-clause-files
 returns-in-Ok-store-clause-files g c = λ s map live held.
     let next : Parts = (respond c.args.command.now s).1 in
     let same : s ≡ c.in-Some.live = is_live c.args.self.now.live s c.in-Some.live live c.in-Some.is in
-    let value : c.in-Ok.next ≡ next = ap (λ (x : Response × Parts). x.1) c.in-Ok.ensures.value ∙ ap (λ (t : Parts). (respond c.args.command.now t).1) (c.state.ensures ∙ sym same) in
+    let value : c.in-Ok.next ≡ next = ap (λ (x : Response × Parts). x.1) c.in-Ok.ensures.value ∙ ap (λ (t : Parts). (respond c.args.command.now t).1) (c.state.ensures.value ∙ sym same) in
     let now = g.F.Files.held c.store.new.files in
     let leaves : ReplaceLeaves map (storing map c.args.self.now.path next) c.store.result now =
     text_next map now c.args.self.now.path c.text.result.now c.store.result c.in-Ok.next next c.text.ensures value (c.store.ensures.files map held) in (
@@ -28,7 +28,7 @@ pub returns-in-Err-Failed-clause-stored : goal.returns-in-Err-Failed-clause-stor
 returns-in-Err-Failed-clause-stored g c = λ s live kept.
     let next : Parts = (respond c.args.command.now s).1 in
     let same : s ≡ c.in-Some.live = is_live c.args.self.now.live s c.in-Some.live live c.in-Some.is in
-    let value : c.in-Ok.next ≡ next = ap (λ (x : Response × Parts). x.1) c.in-Ok.ensures.value ∙ ap (λ (t : Parts). (respond c.args.command.now t).1) (c.state.ensures ∙ sym same) in
+    let value : c.in-Ok.next ≡ next = ap (λ (x : Response × Parts). x.1) c.in-Ok.ensures.value ∙ ap (λ (t : Parts). (respond c.args.command.now t).1) (c.state.ensures.value ∙ sym same) in
     let now = g.F.Files.held c.store.new.files in
     let leaves : StoreLeaves (Holds s) (Holds next) c.store.result (stored_in now c.args.self.now.path) =
     stored_next (g.F.Files.held c.args.self.now.files) now c.args.self.now.path c.text.result.now c.store.result s c.in-Ok.next next c.text.ensures value c.store.ensures.stored kept in
@@ -38,7 +38,7 @@ pub returns-in-Err-Failed-clause-files : goal.returns-in-Err-Failed-clause-files
 returns-in-Err-Failed-clause-files g c = λ s map live held.
     let next : Parts = (respond c.args.command.now s).1 in
     let same : s ≡ c.in-Some.live = is_live c.args.self.now.live s c.in-Some.live live c.in-Some.is in
-    let value : c.in-Ok.next ≡ next = ap (λ (x : Response × Parts). x.1) c.in-Ok.ensures.value ∙ ap (λ (t : Parts). (respond c.args.command.now t).1) (c.state.ensures ∙ sym same) in
+    let value : c.in-Ok.next ≡ next = ap (λ (x : Response × Parts). x.1) c.in-Ok.ensures.value ∙ ap (λ (t : Parts). (respond c.args.command.now t).1) (c.state.ensures.value ∙ sym same) in
     let now = g.F.Files.held c.store.new.files in
     let leaves : ReplaceLeaves map (storing map c.args.self.now.path next) c.store.result now =
     text_next map now c.args.self.now.path c.text.result.now c.store.result c.in-Ok.next next c.text.ensures value (c.store.ensures.files map held) in
