@@ -75,19 +75,19 @@ or_parts : (a b : Bool) → (a || b) ≡ false → (a ≡ false) × (b ≡ false
 or_parts true b e = cc
 or_parts false b e = (refl, e)
 
-sizes_from : (hash : Bank) (list : List (List ℕ)) → list_all (has_size hash) list ≡ true → AllByRecursion (λ (digest : List ℕ). length digest ≡ size_in hash) list
+pub sizes_from : (hash : Bank) (list : List (List ℕ)) → list_all (has_size hash) list ≡ true → AllByRecursion (λ (digest : List ℕ). length digest ≡ size_in hash) list
 sizes_from hash [] h = tt
 sizes_from hash (d ∷ ds) h =
     let both = and_parts (has_size hash d) (list_all (has_size hash) ds) h in
     (eqb-true (length d) (size_in hash) both.0, sizes_from hash ds both.1)
 
 -- what a list has that isn't wrong
-record IsGoodList (hash : Bank) (digest : List ℕ) (list : List (List ℕ)) : Type 0 where
+pub record IsGoodList (hash : Bank) (digest : List ℕ) (list : List (List ℕ)) : Type 0 where
   pub two : 2 ≤ length list
   pub sizes : list_all (has_size hash) list ≡ true
   pub listed : list_any (bytes_eq digest) list ≡ true
 
-good_list : (hash : Bank) (digest : List ℕ) (list : List (List ℕ)) → is_wrong_list hash digest list ≡ false → IsGoodList hash digest list
+pub good_list : (hash : Bank) (digest : List ℕ) (list : List (List ℕ)) → is_wrong_list hash digest list ≡ false → IsGoodList hash digest list
 unfolding is_wrong_list
 good_list hash digest list e =
     let tests = or_parts (nat_lt (length list) 2 || not (list_all (has_size hash) list)) (not (list_any (bytes_eq digest) list)) e in

@@ -21,6 +21,7 @@ use Rattle.tpm_model.specs.Binding.{Binding, Index, Literal, policy_of, binding_
 use Rattle.tpm_model.specs.Events.{bound_world, evicted_world, pinned_world, strange_world, undefined_world, updated_world}
 use Rattle.tpm_model.specs.Sessions.{is_object, object_at, object_place}
 use Rattle.tpm_model.specs.World.{World, BoundObject, PolicyUpdate, AreHashed, extended_world, hashed_world}
+pub use Rattle.tpm_model.specs.World.{Grows}
 use Rattle.tpm_model.specs.Tied.{Tied, IsHeld, IsSoundBinding}
 use Rattle.tpm_model.proofs.Handles.{AreHandles}
 
@@ -34,10 +35,6 @@ pushed P xs y all one x h = elim (Contains-append_cases xs (y ∷ []) x h) [
   | inl before ↦ all x before
   | inr new ↦ subst P (only y x new) one
 ]
-
--- a world with the same strings and more
-abbrev pub Grows : World → World → Type 0
-Grows w v = (x : HashedString) → Contains w.hashed x → Contains v.hashed x
 
 pub more_hashed : (w : World) (more xs : List HashedString) → AreHashed w xs → AreHashed (hashed_world more w) xs
 more_hashed w more xs h = λ s k. Contains-append_left w.hashed more s (h s k)

@@ -1,6 +1,7 @@
 pub mod Pcrs
 pub mod StartValues
 pub mod Sessions
+pub mod OwnSession
 pub mod Trails
 pub mod Shape
 pub mod SessionRules

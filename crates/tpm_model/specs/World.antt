@@ -78,3 +78,7 @@ hashed_world strings w = record w { hashed = w.hashed ++ strings }
 -- the strings all stand among those of the world
 abbrev pub AreHashed : World → List HashedString → Type 0
 AreHashed w strings = (s : HashedString) → Contains strings s → Contains w.hashed s
+
+-- no string is lost from the one world to the other
+abbrev pub Grows : World → World → Type 0
+Grows w v = (s : HashedString) → Contains w.hashed s → Contains v.hashed s

@@ -48,7 +48,7 @@ goes (command.PcrRead bank pcr) s v h t = by_pcr_read (Goes (Other (command.PcrR
 goes (command.StartSession hash) s v h t = by_start_session (Goes (Other (command.StartSession hash)) v) hash s (λ _. t) (λ _. same_tied s _ v refl refl refl t)
 goes (command.PolicyPcr session bank pcrs) s v h t =
     by_policy_pcr (Goes (Other (command.PolicyPcr session bank pcrs)) v) session bank pcrs s (λ _. t) (λ _ _ _ _ _. same_tied s _ v refl refl refl t)
-goes (command.PolicyOr session list) s v h t = by_policy_or (Goes (Other (command.PolicyOr session list)) v) session list s (λ _. t) (λ _ _. same_tied s _ v refl refl refl t)
+goes (command.PolicyOr session list) s v h t = by_policy_or (Goes (Other (command.PolicyOr session list)) v) session list s (λ _. t) (λ _ _ _. same_tied s _ v refl refl refl t)
 goes (command.PolicyAuthorizeNv session index) s v h t =
     by_policy_authorize_nv (Goes (Other (command.PolicyAuthorizeNv session index)) v) session index s (λ _. t) (λ _ _ _ _ _ _ _. same_tied s _ v refl refl refl t)
 goes (command.PolicyGetDigest session) s v h t = by_policy_get_digest (Goes (Other (command.PolicyGetDigest session)) v) session s (nothing (command.PolicyGetDigest session) s v refl t)
@@ -101,7 +101,7 @@ order_after_command (command.PcrExtend pcr digests) s o = by_pcr_extend IsOrdere
 order_after_command (command.PcrRead bank pcr) s o = by_pcr_read IsOrdered bank pcr s (λ _. o)
 order_after_command (command.StartSession hash) s o = by_start_session IsOrdered hash s (λ _. o) (λ _. o)
 order_after_command (command.PolicyPcr session bank pcrs) s o = by_policy_pcr IsOrdered session bank pcrs s (λ _. o) (λ _ _ _ _ _. o)
-order_after_command (command.PolicyOr session list) s o = by_policy_or IsOrdered session list s (λ _. o) (λ _ _. o)
+order_after_command (command.PolicyOr session list) s o = by_policy_or IsOrdered session list s (λ _. o) (λ _ _ _. o)
 order_after_command (command.PolicyAuthorizeNv session index) s o = by_policy_authorize_nv IsOrdered session index s (λ _. o) (λ _ _ _ _ _ _ _. o)
 order_after_command (command.PolicyGetDigest session) s o = by_policy_get_digest IsOrdered session s (λ _. o)
 order_after_command (command.FlushSession session) s o = by_flush_session IsOrdered session s (λ _. o) o

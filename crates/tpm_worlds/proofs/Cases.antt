@@ -31,6 +31,7 @@ use Rattle.tpm_model.specs.Refusing.{refused}
 use Rattle.tpm_model.specs.SessionCommands.{content_in, digest_on, flush_on, flush_session, is_wrong_list, noted_before, policy_authorize_nv, policy_authorize_nv_at, policy_authorize_nv_by, policy_authorize_nv_on, policy_get_digest, policy_or, policy_or_on, policy_pcr, policy_pcr_noted, policy_pcr_on, present_digest, session_handle, start_session, with_entry, with_pcrs, with_session}
 use Rattle.tpm_model.specs.Sessions.{fresh_session, is_session_hash, object_at, object_place, session_at, session_place}
 use Rattle.tpm_model.specs.StartValues.{start_values}
+use Rattle.tpm_model.proofs.KeepsPolicies.{IsGoodList, good_list}
 use Rattle.tpm_model.proofs.KeepsRules.{from_not}
 use Rattle.tpm_model.proofs.TrailSteps.{bytes_same}
 
@@ -95,7 +96,7 @@ by_policy_pcr P handle bank pcrs s bad good = on (session_at handle s.sessions) 
 
 pub by_policy_or : (P : Response × Parts → Type 0) (handle : ℕ) (list : List (List ℕ)) (s : Parts)
     → ((why : Refusal) → P (refused why s))
-    → ((session : Session) → session_at handle s.sessions ≡ Some session
+    → ((session : Session) → session_at handle s.sessions ≡ Some session → IsGoodList session.hash session.digest list
     → P (answer.Done, record s { sessions = with_session handle (with_entry (policy_or_of session.hash list) (entry.Or list) session) s.sessions }))
     → P (policy_or handle list s)
 by_policy_or P handle list s bad good = on (session_at handle s.sessions) refl
@@ -103,8 +104,8 @@ by_policy_or P handle list s bad good = on (session_at handle s.sessions) refl
     on : (o : Option Session) → session_at handle s.sessions ≡ o → P (policy_or_on o handle list s)
     on None e = bad _
     on (Some session) e =
-        cond_both (is_wrong_list session.hash session.digest list) _ _ P (λ _. bad _) (λ _.
-        cond_both (nat_le 128 (length session.trail)) _ _ P (λ _. bad _) (λ _. good session e))
+        cond_both (is_wrong_list session.hash session.digest list) _ _ P (λ _. bad _) (λ right.
+        cond_both (nat_le 128 (length session.trail)) _ _ P (λ _. bad _) (λ _. good session e (good_list session.hash session.digest list right)))
 
 pub by_policy_authorize_nv : (P : Response × Parts → Type 0) (handle index : ℕ) (s : Parts)
     → ((why : Refusal) → P (refused why s))

@@ -37,7 +37,7 @@ grows_all [] s w x h = h
 grows_all (event ∷ events) s w x h = grows_all events (respond (command_of event) s).1 (world_after event s w) x (grows_after event s w x h)
 
 -- two objects that are found under one handle are one
-same_object : (a b : Object) → Some a ≡ Some b → a ≡ b
+pub same_object : (a b : Object) → Some a ≡ Some b → a ≡ b
 same_object a b e = cc
 
 -- one Unseal
@@ -65,7 +65,7 @@ opens event s w k safe = λ session handle answered secret hash bank pcr value i
     one_unseal s w session handle answered secret hash bank pcr value k safe
     (sym (ap (λ c. (respond c s).0) is) ∙ told) bound
 
-each_opens : (events : List Event) (s : Parts) (w : World) → Steady s w → AreFair events s w → Safe (world_after_all events s w) → EachOpensByValue events s w
+pub each_opens : (events : List Event) (s : Parts) (w : World) → Steady s w → AreFair events s w → Safe (world_after_all events s w) → EachOpensByValue events s w
 each_opens [] s w k fair safe = tt
 each_opens (event ∷ events) s w k fair safe =
     let next = world_after event s w in

@@ -67,7 +67,7 @@ look w hash bank pcr value (AuthorizeNv name digest written ∷ rest) safe strin
     absurd (nv_is_no_pcr hash name bank (2 ^ pcr) (digest_in hash value) (same_string w hash bank pcr value _ safe strings all.1 e))
 
 -- two hashes of policies with digests of one size are one
-same_hash : (a b : Bank) → IsPolicyHash a → IsPolicyHash b → size_in a ≡ size_in b → a ≡ b
+pub same_hash : (a b : Bank) → IsPolicyHash a → IsPolicyHash b → size_in a ≡ size_in b → a ≡ b
 same_hash a b (inl p) (inl q) e = p ∙ sym q
 same_hash a b (inr p) (inr q) e = p ∙ sym q
 same_hash a b (inl p) (inr q) e = let wrong : 32 ≡ 48 = ap size_in (sym p) ∙ e ∙ ap size_in q in absurd (omega (arith, wrong))

@@ -1,9 +1,9 @@
 -- Every command leaves a state orderly.
 use Rattle.std.proofs.Common.{◌≡◌, ℕ, ◌+◌, true, List, set, refl, sym, subst, arith}
-use Rattle.std.specs.Prelude.{Option, Some}
+use Rattle.std.specs.Prelude.{Some}
 use Rattle.std.specs.List.{list_all}
 use Rattle.std.proofs.lemmas.Option.{slice_get_within}
-use Rattle.nv_index.specs.Table.{IsTable, after_write, after_write_of, index_at, index_place, is_counted, unwritten, with_index, written_with}
+use Rattle.nv_index.specs.Table.{IsTable, after_write, after_write_of, index_at, index_place, is_counted, unwritten, written_with}
 use Rattle.nv_index.specs.declared.index.Index.{Index}
 use Rattle.nv_index.proofs.Lists.{passes_remove}
 use Rattle.nv_index.proofs.TableKeeps.{passes_with, table_with, table_without, table_written}
@@ -44,7 +44,7 @@ table_after (command.PcrExtend pcr digests) s o = by_pcr_extend Goes pcr digests
 table_after (command.PcrRead bank pcr) s o = by_pcr_read Goes bank pcr s (λ _. o)
 table_after (command.StartSession hash) s o = by_start_session Goes hash s (λ _. o) (λ _. record { table = o.table; counted = o.counted })
 table_after (command.PolicyPcr session bank pcrs) s o = by_policy_pcr Goes session bank pcrs s (λ _. o) (λ _ _ _ _ _. record { table = o.table; counted = o.counted })
-table_after (command.PolicyOr session list) s o = by_policy_or Goes session list s (λ _. o) (λ _ _. record { table = o.table; counted = o.counted })
+table_after (command.PolicyOr session list) s o = by_policy_or Goes session list s (λ _. o) (λ _ _ _. record { table = o.table; counted = o.counted })
 table_after (command.PolicyAuthorizeNv session index) s o = by_policy_authorize_nv Goes session index s (λ _. o) (λ _ _ _ _ _ _ _. record { table = o.table; counted = o.counted })
 table_after (command.PolicyGetDigest session) s o = by_policy_get_digest Goes session s (λ _. o)
 table_after (command.FlushSession session) s o = by_flush_session Goes session s (λ _. o) (record { table = o.table; counted = o.counted })

@@ -1,13 +1,13 @@
 -- What is kept of a session: its digest is the fold of its trail, whose strings were hashed, and while
 -- no PCR was extended since it looked at some, it saw what they hold now.
-use Rattle.std.proofs.Common.{◌≡◌, ℕ, ◌+◌, ◌^◌, ◌<◌, ◌≤◌, ◌==◌, true, false, cond, not, List, [], ◌∷◌, ◌++◌, refl, sym, ap, subst, ◌∙◌, arith, Contains}
+use Rattle.std.proofs.Common.{◌≡◌, ℕ, ◌&&◌, ◌+◌, ◌^◌, ◌<◌, ◌==◌, true, false, cond, not, List, [], ◌∷◌, ◌++◌, refl, sym, ap, subst, ◌∙◌, arith, Contains}
 use Rattle.std.specs.Prelude.{nat_le, reverse, Option, None, Some}
 use Rattle.std.specs.List.{AllByRecursion, list_all}
 use Rattle.std.specs.Str.{bytes_eq}
-use Rattle.std.proofs.lemmas.Bool.{and_parts, eq-eqb, eqb-true, leb-true}
+use Rattle.std.proofs.lemmas.Bool.{and_from, and_parts, eq-eqb, eqb-true, leb-true}
 use Rattle.hash_bank.specs.declared.bank.Bank.{Bank}
 use Rattle.hash_bank.specs.Banks.{has_bank}
-use Rattle.policy_digest.specs.Policies.{IsPolicyHash, policy_pcr_of}
+use Rattle.policy_digest.specs.Policies.{policy_pcr_of}
 use Rattle.policy_digest.specs.Strings.{values_string}
 use Rattle.nv_index.proofs.Lists.{all_push}
 use Rattle.tpm_model.specs.declared.parts.Parts.{Parts}
@@ -17,51 +17,20 @@ use Rattle.tpm_model.specs.declared.trail.TrailEntry.TheVariants as entry
 use Rattle.tpm_model.specs.declared.trail.TrailEntry.TheVariants.{Pcr, Or, AuthorizeNv}
 use Rattle.tpm_model.specs.Pcrs.{chosen, present_digest_in, values_of}
 use Rattle.tpm_model.specs.SessionCommands.{noted_before, present_digest, with_entry, with_pcrs}
-use Rattle.tpm_model.specs.SessionRules.{is_noted_by, is_now, is_up_to_date, saw_present}
+use Rattle.tpm_model.specs.SessionRules.{agrees_with, are_members, are_reads, is_noted_by, is_now, is_read, is_sha256, is_up_to_date, lists_digest, saw_present}
 use Rattle.tpm_model.specs.Sessions.{fresh_session, is_session_hash}
 use Rattle.tpm_model.specs.Shape.{IsEntryShape}
 use Rattle.tpm_model.specs.Strings.{joined_values}
-use Rattle.tpm_model.specs.Trails.{digest_after, entry_string_in, has_pcr_entry, trail_digest}
+use Rattle.tpm_model.specs.Trails.{digest_after, digest_of_in, entry_string_in, has_pcr_entry, trail_digest}
 use Rattle.tpm_model.specs.WholeTie.{HasHashedValues}
 use Rattle.tpm_model.specs.World.{World}
 use Rattle.tpm_model.proofs.KeepsRules.{KeepsSession, policy_hash}
-use Rattle.tpm_model.proofs.TrailSteps.{bytes_same, digest_step, newest_first}
+use Rattle.tpm_model.proofs.TrailSteps.{bytes_same, digest_step, members_step, newest_first}
 use Rattle.tpm_worlds.specs.SealedTie.{AreHashedEntries, IsHashedEntry, IsHashedSession}
+pub use Rattle.tpm_worlds.specs.SteadySessions.{IsGood, IsSeen, IsSmall, SeesNow}
+use Rattle.tpm_worlds.specs.SteadySessions.{IsSized, LooksNot, ReadDigests, ReadsDigest}
 use Rattle.tpm_model.proofs.Ties.{Grows}
 use Rattle.tpm_worlds.proofs.Trails.{all_map}
-
--- an entry's mask, where it looked at PCRs, has 24 bits
-abbrev pub IsSmall : TrailEntry → Type 0
-IsSmall (Pcr bank pcrs values) = pcrs < 2 ^ 24
-IsSmall (Or list) = Unit {0}
-IsSmall (AuthorizeNv name digest written) = Unit {0}
-
--- an entry didn't look at PCRs
-abbrev pub LooksNot : TrailEntry → Type 0
-LooksNot (Pcr bank pcrs values) = ⊥
-LooksNot (Or list) = Unit {0}
-LooksNot (AuthorizeNv name digest written) = Unit {0}
-
--- what PCRs hold now was seen, and their joined values were hashed
-pub record IsSeen (s : Parts) (w : World) (hash bank : Bank) (pcrs : ℕ) (values : List ℕ) : Type 0 where
-  pub present : has_bank s.banks bank ≡ true
-  pub digest : values ≡ present_digest_in hash bank pcrs s.banks s.pcrs
-  pub joined : Contains w.hashed (record { hash = hash; bytes = joined_values bank pcrs s })
-
--- an entry, where it looked at PCRs, saw what they hold now
-abbrev pub SeesNow : Parts → World → Bank → TrailEntry → Type 0
-SeesNow s w hash (Pcr bank pcrs values) = IsSeen s w hash bank pcrs values
-SeesNow s w hash (Or list) = Unit {0}
-SeesNow s w hash (AuthorizeNv name digest written) = Unit {0}
-
-pub record IsGood (s : Parts) (w : World) (x : Session) : Type 0 where
-  pub hash : IsPolicyHash x.hash
-  pub fold : x.digest ≡ trail_digest x.hash x.trail
-  pub small : AllByRecursion IsSmall x.trail
-  pub none : x.noted ≡ None → AllByRecursion LooksNot x.trail
-  pub most : (n : ℕ) → x.noted ≡ Some n → n ≤ s.update_counter
-  pub now : x.noted ≡ Some s.update_counter → AllByRecursion (SeesNow s w x.hash) x.trail
-  pub entries : AreHashedEntries w x.hash (reverse x.trail)
 
 -- what didn't look at PCRs saw all that it could
 sees_nothing : (s : Parts) (w : World) (hash : Bank) (x : TrailEntry) → LooksNot x → SeesNow s w hash x
@@ -92,6 +61,9 @@ good_on s w v grows x g = record {
   none = g.none;
   most = g.most;
   now = λ e. all_map (SeesNow s w x.hash) (SeesNow s v x.hash) (sees_on s w v grows x.hash) x.trail (g.now e);
+  members = g.members;
+  lists = g.lists;
+  reads = g.reads;
   entries = entries_on w v grows x.hash (reverse x.trail) g.entries;
 }
 
@@ -104,6 +76,9 @@ fresh_good s w hash handle allowed = record {
   none = λ _. tt;
   most = λ n e. cc;
   now = λ e. tt;
+  members = refl;
+  lists = tt;
+  reads = tt;
   entries = tt;
 }
 
@@ -119,18 +94,47 @@ more_entries w x new fold one string all =
 more_digest : (x : Session) (new : TrailEntry) → x.digest ≡ trail_digest x.hash x.trail → digest_after x.hash x.digest new ≡ trail_digest x.hash (x.trail ++ new ∷ [])
 more_digest x new fold = ap (λ d. digest_after x.hash d new) fold ∙ sym (digest_step x.hash x.trail new)
 
+-- the lists with one more
+more_members : (x : Session) (new : TrailEntry) → x.digest ≡ trail_digest x.hash x.trail → lists_digest x.digest new ≡ true
+    → are_members x.hash (reverse x.trail) ≡ true → are_members x.hash (reverse (x.trail ++ new ∷ [])) ≡ true
+more_members x new fold listed all =
+    members_step x.hash x.trail new
+    ∙ and_from (lists_digest (trail_digest x.hash x.trail) new) (are_members x.hash (reverse x.trail)) (ap (λ d. lists_digest d new) (sym fold) ∙ listed) all
+
+-- the reads with one more
+more_reads : (x : Session) (new : TrailEntry) → x.digest ≡ trail_digest x.hash x.trail → ReadsDigest x.digest new
+    → ReadDigests x.hash (reverse x.trail) → ReadDigests x.hash (reverse (x.trail ++ new ∷ []))
+more_reads x new fold read all =
+    subst (ReadDigests x.hash) (sym (newest_first x.trail new)) (subst (λ d. ReadsDigest d new) fold read, all)
+
+-- what an entry that isn't a look at PCRs has to have
+pub record IsNext (w : World) (x : Session) (new : TrailEntry) : Type 0 where
+  pub other : LooksNot new
+  pub listed : lists_digest x.digest new ≡ true
+  pub sized : IsSized x.hash new
+  pub read : ReadsDigest x.digest new
+  pub one : IsHashedEntry w new
+  pub string : Contains w.hashed (record { hash = x.hash; bytes = entry_string_in x.hash x.digest new })
+
+small_next : (new : TrailEntry) → LooksNot new → IsSmall new
+small_next (Pcr bank pcrs values) other = absurd other
+small_next (Or list) other = tt
+small_next (AuthorizeNv name digest written) other = tt
+
 -- a session with one more entry that isn't a look at PCRs
-pub grown_good : (s : Parts) (w : World) (x : Session) (new : TrailEntry) → IsGood s w x → LooksNot new → IsSmall new → IsHashedEntry w new
-    → Contains w.hashed (record { hash = x.hash; bytes = entry_string_in x.hash x.digest new })
+pub grown_good : (s : Parts) (w : World) (x : Session) (new : TrailEntry) → IsGood s w x → IsNext w x new
     → IsGood s w (with_entry (digest_after x.hash x.digest new) new x)
-grown_good s w x new g other small one string = record {
+grown_good s w x new g next = record {
   hash = g.hash;
   fold = more_digest x new g.fold;
-  small = all_push IsSmall x.trail new g.small small;
-  none = λ e. all_push LooksNot x.trail new (g.none e) other;
+  small = all_push IsSmall x.trail new g.small (small_next new next.other);
+  none = λ e. all_push LooksNot x.trail new (g.none e) next.other;
   most = g.most;
-  now = λ e. all_push (SeesNow s w x.hash) x.trail new (g.now e) (sees_nothing s w x.hash new other);
-  entries = more_entries w x new g.fold one string g.entries;
+  now = λ e. all_push (SeesNow s w x.hash) x.trail new (g.now e) (sees_nothing s w x.hash new next.other);
+  members = more_members x new g.fold next.listed g.members;
+  lists = all_push (IsSized x.hash) x.trail new g.lists next.sized;
+  reads = more_reads x new g.fold next.read g.reads;
+  entries = more_entries w x new g.fold next.one next.string g.entries;
 }
 
 -- a session that noted no other counter saw what PCRs hold now
@@ -161,6 +165,9 @@ looked_good s w x bank pcrs g small present free joined string =
       none = λ e. cc;
       most = λ n e. let same : s.update_counter ≡ n = cc in omega arith;
       now = λ e. all_push (SeesNow s w x.hash) x.trail new (saw_so_far s w x g free) (record { present = present; digest = refl; joined = joined });
+      members = more_members x new g.fold refl g.members;
+      lists = all_push (IsSized x.hash) x.trail new g.lists tt;
+      reads = more_reads x new g.fold tt g.reads;
       entries = more_entries w x new g.fold tt string g.entries;
     }
 
@@ -173,6 +180,9 @@ passed_good s t w next x g = record {
   none = g.none;
   most = λ n e. omega (arith, g.most n e, next);
   now = λ e. absurd (omega (arith, g.most t.update_counter e, next));
+  members = g.members;
+  lists = g.lists;
+  reads = g.reads;
   entries = g.entries;
 }
 
@@ -185,6 +195,9 @@ same_good s t w counter banks pcrs x g = record {
   none = g.none;
   most = λ n e. omega (arith, g.most n e, counter);
   now = λ e. all_map (SeesNow s w x.hash) (SeesNow t w x.hash) alike x.trail (g.now (e ∙ ap Some counter));
+  members = g.members;
+  lists = g.lists;
+  reads = g.reads;
   entries = g.entries;
 }
   where
@@ -205,6 +218,28 @@ small_from hash xs all = all_map (IsEntryShape hash) IsSmall one xs all
     one (Pcr bank pcrs values) h = h.mask
     one (Or list) h = tt
     one (AuthorizeNv name digest written) h = tt
+
+sized_from : (hash : Bank) (xs : List TrailEntry) → AllByRecursion (IsEntryShape hash) xs → AllByRecursion (IsSized hash) xs
+sized_from hash xs all = all_map (IsEntryShape hash) (IsSized hash) one xs all
+  where
+    one : (x : TrailEntry) → IsEntryShape hash x → IsSized hash x
+    one (Pcr bank pcrs values) h = tt
+    one (Or list) h = h.sizes
+    one (AuthorizeNv name digest written) h = tt
+
+reads_from : (s : Parts) (hash : Bank) (entries : List TrailEntry) → are_reads s hash entries ≡ true → ReadDigests hash entries
+reads_from s hash [] h = tt
+reads_from s hash (entry ∷ entries) h =
+    let both = and_parts (is_read s hash (digest_of_in hash entries) entry) (are_reads s hash entries) h in
+    (one entry both.0, reads_from s hash entries both.1)
+  where
+    one : (x : TrailEntry) → is_read s hash (digest_of_in hash entries) x ≡ true → ReadsDigest (digest_of_in hash entries) x
+    one (Pcr bank pcrs values) e = tt
+    one (Or list) e = tt
+    one (AuthorizeNv name digest written) e =
+        let tests = and_parts _ (list_all (agrees_with name digest written) s.indices) e in
+        let before = and_parts (is_sha256 hash && bytes_eq digest (digest_of_in hash entries)) _ tests.0 in
+        bytes_same digest (digest_of_in hash entries) (and_parts (is_sha256 hash) _ before.0).1
 
 looks_not : (xs : List TrailEntry) → not (has_pcr_entry xs) ≡ true → AllByRecursion LooksNot xs
 looks_not [] e = tt
@@ -229,6 +264,9 @@ good_from s w x k h = record {
   none = λ e. looks_not x.trail (subst (λ o. is_noted_by o s.update_counter x.trail ≡ true) e k.noted);
   most = λ n e. leb-true n s.update_counter (and_parts (has_pcr_entry x.trail) (nat_le n s.update_counter) (subst (λ o. is_noted_by o s.update_counter x.trail ≡ true) e k.noted)).1;
   now = λ e. sees_from s w x.hash x.trail (saw e k.pcr_now) (h.values e);
+  members = k.or_member;
+  lists = sized_from x.hash x.trail k.shape.entries;
+  reads = reads_from s x.hash (reverse x.trail) k.nv_now;
   entries = h.entries;
 }
   where

@@ -23,13 +23,11 @@ use Rattle.tpm_model.specs.SessionCommands.{session_handle}
 use Rattle.tpm_model.specs.Sessions.{fresh_session, session_at, session_place}
 use Rattle.tpm_model.specs.Strings.{command_strings, joined_values, nv_strings, or_strings, pcr_strings}
 use Rattle.tpm_model.specs.World.{World, AreHashed}
+use Rattle.tpm_model.proofs.KeepsPolicies.{sizes_from}
 use Rattle.tpm_worlds.proofs.Cases.{by_evict, by_flush_session, by_nv_define, by_nv_read, by_nv_read_public, by_nv_undefine, by_nv_write, by_pcr_extend, by_pcr_read, by_policy_authorize_nv, by_policy_get_digest, by_policy_or, by_policy_pcr, by_restart, by_seal, by_start_session, by_unseal}
+pub use Rattle.tpm_worlds.specs.SteadySessions.{AreGood}
 use Rattle.tpm_worlds.proofs.Sessions.{IsGood, fresh_good, grown_good, looked_good, passed_good, same_good}
 use Rattle.tpm_worlds.proofs.Trails.{all_map}
-
--- each session of a state is good
-abbrev pub AreGood : World → Parts → Type 0
-AreGood v s = AllByRecursion (IsGood s v) s.sessions
 
 -- each of the state that is left is
 abbrev Goes : World → Response × Parts → Type 0
@@ -80,15 +78,23 @@ sessions_after (command.PolicyPcr handle bank pcrs) s v h all =
     like s _ v _ refl refl refl (all_set (IsGood s v) s.sessions (session_place handle s.sessions) _ all
     (looked_good s v x bank pcrs (found s v all handle x e) small present free (strings _ (0, lit< tt, refl)) (strings _ (1, lit< tt, refl)))))
 sessions_after (command.PolicyOr handle list) s v h all =
-    by_policy_or (Goes v) handle list s (λ _. all) (λ x e.
+    by_policy_or (Goes v) handle list s (λ _. all) (λ x e good.
     like s _ v _ refl refl refl (all_set (IsGood s v) s.sessions (session_place handle s.sessions) _ all
-    (grown_good s v x (entry.Or list) (found s v all handle x e) tt tt tt (or_hashed handle list s v x e h))))
+    (grown_good s v x (entry.Or list) (found s v all handle x e)
+    (record { other = tt; listed = good.listed; sized = sizes_from x.hash list good.sizes; read = tt; one = tt; string = or_hashed handle list s v x e h }))))
 sessions_after (command.PolicyAuthorizeNv handle index) s v h all =
     by_policy_authorize_nv (Goes v) handle index s (λ _. all) (λ x i written e f was met.
     let strings = nv_hashed handle index s v x i e f h in
     like s _ v _ refl refl refl (all_set (IsGood s v) s.sessions (session_place handle s.sessions) _ all
-    (grown_good s v x (entry.AuthorizeNv (index_name_of i.public) x.digest written.number) (found s v all handle x e) tt tt
-    (record { area = i.public; same = refl; string = strings _ (0, lit< tt, refl) }) (strings _ (1, lit< tt, refl)))))
+    (grown_good s v x (entry.AuthorizeNv (index_name_of i.public) x.digest written.number) (found s v all handle x e)
+    (record {
+      other = tt;
+      listed = refl;
+      sized = tt;
+      read = refl;
+      one = record { area = i.public; same = refl; string = strings _ (0, lit< tt, refl) };
+      string = strings _ (1, lit< tt, refl);
+    }))))
 sessions_after (command.PolicyGetDigest handle) s v h all = by_policy_get_digest (Goes v) handle s (λ _. all)
 sessions_after (command.FlushSession handle) s v h all =
     by_flush_session (Goes v) handle s (λ _. all) (like s _ v _ refl refl refl (all_remove (IsGood s v) s.sessions (session_place handle s.sessions) all))

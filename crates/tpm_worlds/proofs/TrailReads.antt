@@ -32,22 +32,15 @@ use Rattle.tpm_model.specs.SessionCommands.{content_in, session_handle}
 use Rattle.tpm_model.specs.Sessions.{fresh_session, session_place}
 use Rattle.tpm_model.specs.Strings.{command_strings}
 use Rattle.tpm_model.specs.WholeTie.{AreTiedEntries, IsTiedEntry, IsTiedRead, IsTiedSession, IsWriteOf, TiedIndices}
-use Rattle.tpm_model.specs.World.{LiveIndex, PolicyUpdate, World, AreHashed}
+use Rattle.tpm_model.specs.World.{LiveIndex, World, AreHashed}
+pub use Rattle.tpm_worlds.specs.Growth.{GrowsAll}
 use Rattle.tpm_worlds.specs.SealedTie.{AreHashedEntries, IsHashedEntry, IsHashedSession}
+pub use Rattle.tpm_worlds.specs.SteadySessions.{AreRead, HasReads}
 use Rattle.tpm_worlds.proofs.Cases.{by_evict, by_flush_session, by_nv_define, by_nv_read, by_nv_read_public, by_nv_undefine, by_nv_write, by_pcr_extend, by_pcr_read, by_policy_authorize_nv, by_policy_get_digest, by_policy_or, by_policy_pcr, by_restart, by_seal, by_start_session, by_unseal}
 use Rattle.tpm_worlds.proofs.IndexPlaces.{found_handle}
 use Rattle.tpm_worlds.proofs.IndicesAfter.{handle_range}
 use Rattle.tpm_worlds.proofs.SessionsAfter.{nv_hashed}
-use Rattle.tpm_model.proofs.Ties.{Grows}
 use Rattle.tpm_worlds.proofs.Trails.{all_map}
-
--- what each entry of a session's trail says of the world
-abbrev pub HasReads : World → Session → Type 0
-HasReads w x = AllByRecursion (IsTiedEntry w) x.trail
-
--- and of each session
-abbrev pub AreRead : World → Parts → Type 0
-AreRead w s = AllByRecursion (HasReads w) s.sessions
 
 all_reverse : {A : Type 0} (P : A → Type 0) (xs : List A) → AllByRecursion P xs → AllByRecursion P (reverse xs)
 all_reverse P [] all = tt
@@ -84,12 +77,6 @@ pub tied_session : (s : Parts) (w : World) (x : Session) → IsHashedSession s w
 tied_session s w x h all = record { entries = tied_entries w x.hash (reverse x.trail) h.entries (all_reverse (IsTiedEntry w) x.trail all); values = h.values }
 
 -- in a world that grew in strings, pins and updates
-pub record GrowsAll (w v : World) : Type 0 where
-  pub strings : Grows w v
-  pub pins : (p : List ℕ) → Contains w.pins p → Contains v.pins p
-  pub strange : (p : List ℕ) → Contains w.strange p → Contains v.strange p
-  pub writes : (u : PolicyUpdate) → Contains w.writes u → Contains v.writes u
-
 write_on : (w v : World) → GrowsAll w v → (number handle : ℕ) (pin digest : List ℕ) → IsWriteOf w number handle pin digest → IsWriteOf v number handle pin digest
 write_on w v grows number handle pin digest (inl ours) = inl (grows.pins pin ours.0, (ours.1.0, grows.writes _ ours.1.1, ours.1.2))
 write_on w v grows number handle pin digest (inr foreign) = inr (grows.strange pin foreign)
@@ -110,7 +97,7 @@ pub reads_on : (w v : World) → GrowsAll w v → (xs : List Session) → AllByR
 reads_on w v grows xs all = all_map (HasReads w) (HasReads v) (λ x h. all_map (IsTiedEntry w) (IsTiedEntry v) (entry_on w v grows) x.trail h) xs all
 
 -- an index that is written has the attributes and the size of one
-written_area : (s : Parts) → Orderly s → (q : ℕ) (x : Index) (written : Written) → index_at q s.indices ≡ Some x → x.written ≡ Some written
+pub written_area : (s : Parts) → Orderly s → (q : ℕ) (x : Index) (written : Written) → index_at q s.indices ≡ Some x → x.written ≡ Some written
     → x.public ≡ written_public x.public.handle x.public.policy
 written_area s orderly q x written found was = area
   where
@@ -205,7 +192,7 @@ reads_after (command.PolicyPcr handle bank pcrs) s v orderly tie h all =
     by_policy_pcr (Goes v) handle bank pcrs s (λ _. all) (λ x e _ _ _. all_set (HasReads v) s.sessions (session_place handle s.sessions) _ all
     (all_push (IsTiedEntry v) x.trail _ (all_at (HasReads v) s.sessions (session_place handle s.sessions) x all e) tt))
 reads_after (command.PolicyOr handle list) s v orderly tie h all =
-    by_policy_or (Goes v) handle list s (λ _. all) (λ x e. all_set (HasReads v) s.sessions (session_place handle s.sessions) _ all
+    by_policy_or (Goes v) handle list s (λ _. all) (λ x e _. all_set (HasReads v) s.sessions (session_place handle s.sessions) _ all
     (all_push (IsTiedEntry v) x.trail (entry.Or list) (all_at (HasReads v) s.sessions (session_place handle s.sessions) x all e) tt))
 reads_after (command.PolicyAuthorizeNv handle index) s v orderly tie h all =
     by_policy_authorize_nv (Goes v) handle index s (λ _. all) (λ x i written e found was met. all_set (HasReads v) s.sessions (session_place handle s.sessions) _ all

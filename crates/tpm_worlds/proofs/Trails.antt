@@ -20,7 +20,7 @@ all_last P [] y all = all.0
 all_last P (x ∷ xs) y all = all_last P xs y all.1
 
 -- the newest entry stands at the end
-newest_last : (trail : List TrailEntry) (entry : TrailEntry) (rest : List TrailEntry) → reverse trail ≡ entry ∷ rest → trail ≡ reverse rest ++ entry ∷ []
+pub newest_last : (trail : List TrailEntry) (entry : TrailEntry) (rest : List TrailEntry) → reverse trail ≡ entry ∷ rest → trail ≡ reverse rest ++ entry ∷ []
 newest_last trail entry rest e = sym (reverse-reverse trail) ∙ ap reverse e ∙ reverse-append (entry ∷ []) rest
 
 pub all_newest : (P : TrailEntry → Type 0) (trail : List TrailEntry) (entry : TrailEntry) (rest : List TrailEntry) → reverse trail ≡ entry ∷ rest → AllByRecursion P trail → P entry

@@ -26,6 +26,7 @@ use Rattle.tpm_model.specs.WholeTie.{IsFiledHashed, IsTiedSession, TiedIndices}
 use Rattle.tpm_model.specs.World.{LiveIndex, PolicyUpdate, World, AreHashed, hashed_world}
 use Rattle.tpm_worlds.specs.EventLists.{IsFair, Safe}
 use Rattle.tpm_worlds.specs.SealedTie.{IsHashedSession}
+pub use Rattle.tpm_worlds.specs.SteadySessions.{SteadySessions}
 use Rattle.tpm_worlds.specs.WholeEvents.{HasRanges, IsSoundEvent, KnowsPins, OwnTie}
 use Rattle.tpm_worlds.proofs.AfterCommand.{written_strings}
 use Rattle.tpm_worlds.proofs.Cases.{by_evict, by_flush_session, by_nv_define, by_nv_read, by_nv_read_public, by_nv_undefine, by_nv_write, by_pcr_extend, by_pcr_read, by_policy_authorize_nv, by_policy_get_digest, by_policy_or, by_policy_pcr, by_restart, by_seal, by_start_session, by_unseal}
@@ -33,7 +34,6 @@ use Rattle.tpm_worlds.proofs.IndicesAfter.{indices_defined, indices_same, indice
 use Rattle.tpm_worlds.proofs.Ranges.{ranged_accepted}
 use Rattle.tpm_worlds.proofs.SamePin.{same_pin}
 use Rattle.tpm_worlds.proofs.Sessions.{IsGood, hashed_from}
-use Rattle.tpm_worlds.proofs.SessionsAfter.{AreGood}
 use Rattle.tpm_worlds.proofs.Steady.{command_hashed, event_goes as tied_goes, fair_on, filed_on, filed_stays, good_after, good_all, grows_after, hashed_stays}
 use Rattle.tpm_model.proofs.KeepsRules.{sessions_kept}
 use Rattle.tpm_model.proofs.Ties.{all_hashed, pushed, sound_on, tied_hashed}
@@ -133,7 +133,7 @@ module _ (s : Parts) (v : World) (orderly : Orderly s) (known : KnowsPins v) (sa
   other_goes (command.PolicyPcr session bank pcrs) h =
       by_policy_pcr (Goes (Other (command.PolicyPcr session bank pcrs)) v) session bank pcrs s (λ _ _. tie) (λ _ _ _ _ _ _. stays _ v refl refl refl refl (λ _ k. k) (λ _ k. k))
   other_goes (command.PolicyOr session list) h =
-      by_policy_or (Goes (Other (command.PolicyOr session list)) v) session list s (λ _ _. tie) (λ _ _ _. stays _ v refl refl refl refl (λ _ k. k) (λ _ k. k))
+      by_policy_or (Goes (Other (command.PolicyOr session list)) v) session list s (λ _ _. tie) (λ _ _ _ _. stays _ v refl refl refl refl (λ _ k. k) (λ _ k. k))
   other_goes (command.PolicyAuthorizeNv session index) h =
       by_policy_authorize_nv (Goes (Other (command.PolicyAuthorizeNv session index)) v) session index s (λ _ _. tie) (λ _ _ _ _ _ _ _ _. stays _ v refl refl refl refl (λ _ k. k) (λ _ k. k))
   other_goes (command.PolicyGetDigest session) h = by_policy_get_digest (Goes (Other (command.PolicyGetDigest session)) v) session s (nothing (command.PolicyGetDigest session) s v refl tie)
@@ -171,7 +171,7 @@ module _ (s : Parts) (v : World) (orderly : Orderly s) (known : KnowsPins v) (sa
   event_goes (Other c) sound h = other_goes c h
 
 -- what is sound is fair, and stays sound with more strings
-fair_from : (event : Event) (w : World) → IsSoundEvent event w → IsFair event w
+pub fair_from : (event : Event) (w : World) → IsSoundEvent event w → IsFair event w
 fair_from (Update handle pin table) w h = tt
 fair_from (Define public pin) w h = tt
 fair_from (SealTo b secret) w h = h.0
@@ -180,7 +180,7 @@ fair_from (Other c) w h = tt
 
 sound_stays : (event : Event) (w : World) (more : List HashedString) → IsSoundEvent event w → IsSoundEvent event (hashed_world more w)
 sound_stays (Update handle pin table) w more h = h
-sound_stays (Define public pin) w more h = tt
+sound_stays (Define public pin) w more h = h
 sound_stays (SealTo b secret) w more h = (sound_on w (hashed_world more w) (λ _ k. k) b h.0, h.1)
 sound_stays (SealPin handle pin) w more h = h
 sound_stays (Other c) w more h = tt
@@ -220,12 +220,7 @@ own_after event s w orderly sound own clean safe =
       ranges = ranges_after event s w sound own.ranges;
     }
 
--- what is kept of the sessions: each is good, and what it read is tied
-pub record SteadySessions (s : Parts) (w : World) : Type 0 where
-  pub good : AreGood w s
-  pub reads : AreRead w s
-
--- an event keeps it, whether or not strings clash
+-- an event keeps what is kept of sessions, whether or not strings clash
 pub sessions_after : (event : Event) (s : Parts) (w : World) → Orderly s → KnowsPins w → TiedIndices s w → SteadySessions s w
     → SteadySessions (respond (command_of event) s).1 (world_after event s w)
 sessions_after event s w orderly known tie sessions =

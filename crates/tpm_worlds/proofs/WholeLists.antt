@@ -60,7 +60,7 @@ orderly_after_all (c ∷ commands) s orderly = orderly_after_all commands (respo
 -- what an event leaves, from what is known after all
 module _ (event : Event) (events : List Event) (s : Parts) (w : World) (orderly : Orderly s) (sound : IsSoundEvent event w) (own : OwnTie s w)
     (clean : Clean (world_after_all (event ∷ events) s w)) (safe : Safe (world_after_all (event ∷ events) s w)) where
-  own_next : OwnTie (respond (command_of event) s).1 (world_after event s w)
+  pub own_next : OwnTie (respond (command_of event) s).1 (world_after event s w)
   own_next =
       let t = (respond (command_of event) s).1 in
       let v = world_after event s w in

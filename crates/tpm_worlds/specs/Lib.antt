@@ -3,3 +3,5 @@ pub mod CommandLists
 pub mod EventLists
 pub mod FreshWorld
 pub mod WholeEvents
+pub mod Growth
+pub mod SteadySessions

@@ -2,6 +2,7 @@
 use Rattle.std.specs.Prelude.{◌≡◌, ℕ, ◌^◌, ◌<◌, List, [], ◌∷◌, Contains, Some}
 use Rattle.std.specs.FinMap.{get}
 use Rattle.std.specs.List.{AllByRecursion}
+use Rattle.policy_digest.specs.Pin.{pin_policy_of}
 use Rattle.tpm_model.specs.declared.parts.Parts.{Parts}
 use Rattle.tpm_model.specs.Binding.{Binding, Index, Literal}
 use Rattle.tpm_model.specs.Events.{Event, Update, Define, SealTo, SealPin, Other, command_of, world_after}
@@ -16,11 +17,11 @@ abbrev pub IsRanged : Binding → Type 0
 IsRanged (Index handle pin) = handle < 2 ^ 32
 IsRanged (Literal hash bank pcr value) = Unit {0}
 
--- the program writes the root of a valid table, and seals to sound bindings, whose handles have 32
--- bits; nothing is asked of a command of anyone
+-- the program writes the root of a valid table, defines an index with the pin's policy, and seals to sound
+-- bindings, whose handles have 32 bits; nothing is asked of a command of anyone
 abbrev pub IsSoundEvent : Event → World → Type 0
 IsSoundEvent (Update handle pin table) w = IsValidTable table
-IsSoundEvent (Define public pin) w = Unit {0}
+IsSoundEvent (Define public pin) w = public.policy ≡ pin_policy_of pin
 IsSoundEvent (SealTo binding secret) w = IsSoundBinding w binding × IsRanged binding
 IsSoundEvent (SealPin handle pin) w = IsRanged (Index handle pin)
 IsSoundEvent (Other command) w = Unit {0}

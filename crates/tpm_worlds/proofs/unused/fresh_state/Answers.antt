@@ -1,7 +1,6 @@
 use Rattle.std.proofs.Common.{sym, subst}
 use Rattle.tpm_worlds.specs.FreshWorld.{fresh_world}
 use Rattle.tpm_worlds.specs.WholeEvents.{FullTie}
-use Rattle.tpm_worlds.proofs.Fresh.{fresh_safe}
 use Rattle.tpm_worlds.proofs.WholeLists.{fresh_full}
 use Rattle.tpm_worlds.proofs.unused.fresh_state.Goals as goal
 
