@@ -97,10 +97,10 @@ nv_is_no_or hash name list e =
 
 -- digests of one length, joined, tell the digests
 module _ (size : ℕ) (some_bytes : 1 ≤ size) where
-  abbrev HasSize : List ℕ → Type 0
+  abbrev pub HasSize : List ℕ → Type 0
   HasSize digest = length digest ≡ size
 
-  same_digests : (some others : List (List ℕ)) → All HasSize some → All HasSize others → concat some ≡ concat others → some ≡ others
+  pub same_digests : (some others : List (List ℕ)) → All HasSize some → All HasSize others → concat some ≡ concat others → some ≡ others
   same_digests [] [] a b e = refl
   same_digests [] (y ∷ others) a b e =
       let long = All-head HasSize y others b in

@@ -5,3 +5,6 @@ pub mod TableWalks
 pub mod Onward
 pub mod Inside
 pub mod Tied
+pub mod Members
+pub mod Chosen
+pub mod OpenTables

@@ -3,17 +3,17 @@ use Rattle.std.proofs.Common.{◌≡◌, true, List, [], ◌∷◌, ◌++◌, sy
 use Rattle.std.specs.Prelude.{reverse}
 use Rattle.std.specs.List.{AllByRecursion}
 use Rattle.std.proofs.lemmas.Bool.{and_parts}
-use Rattle.hash_bank.specs.declared.bank.Bank.{Bank}
 use Rattle.hash_bank.specs.declared.bank.Bank.TheVariants.{Sha256}
 use Rattle.hash_bank.specs.HashedString.{HashedString}
-use Rattle.policy_digest.specs.PlainTable.{PlainRow, PlainTable}
-use Rattle.policy_roots.specs.Rows.{HasLists, HasRows}
+use Rattle.policy_digest.specs.PlainTable.{PlainTable}
+use Rattle.policy_roots.specs.Rows.{HasRows}
+use Rattle.policy_roots.proofs.Valid.{valid_has_rows}
 use Rattle.tpm_model.specs.declared.trail.TrailEntry.{TrailEntry}
 use Rattle.tpm_model.specs.declared.trail.TrailEntry.TheVariants.{Pcr, Or, AuthorizeNv}
 use Rattle.tpm_model.specs.SessionRules.{are_members, lists_digest}
 use Rattle.tpm_model.specs.Shape.{IsEntryShape}
 use Rattle.tpm_model.specs.Trails.{trail_digest}
-use Rattle.tpm_model.specs.ValidTable.{IsValidRow, IsValidTable}
+use Rattle.tpm_model.specs.ValidTable.{IsValidTable}
 use Rattle.tpm_model.specs.WholeTie.{AreTiedEntries}
 use Rattle.tpm_model.specs.World.{World}
 use Rattle.tpm_model.proofs.TrailSteps.{members_step, newest_first}
@@ -52,9 +52,5 @@ known_before S trail entry known =
 
 -- ---- a valid table
 
-have_lists : (bank : Bank) (rows : List PlainRow) → AllByRecursion (IsValidRow bank) rows → AllByRecursion HasLists rows
-have_lists bank [] valid = tt
-have_lists bank (row ∷ rows) valid = (record { some = valid.0.one; few = valid.0.most }, have_lists bank rows valid.1)
-
 pub valid_rows : (table : PlainTable) → IsValidTable table → HasRows table
-valid_rows table valid = record { some = valid.one; rows = have_lists table.bank table.rows valid.rows }
+valid_rows table valid = subst HasRows (sym valid.same) (valid_has_rows valid.table valid.valid)

@@ -1,9 +1,10 @@
 //! The laws of trails that walk tables.
-ghost use Rattle.std.specs.Prelude.{◌≡◌, ◌≢◌, ℕ, ◌<◌, true, List, [], ◌∷◌, ◌++◌, Contains, length, reverse};
+ghost use Rattle.std.specs.Prelude.{◌≡◌, ◌≢◌, ◌↔◌, ℕ, ◌<◌, true, List, [], ◌∷◌, ◌++◌, Contains, length, reverse};
 ghost use Rattle.std.specs.List.{AllByRecursion};
 ghost use Rattle.hash_bank.specs.declared.bank.Bank.{Bank};
 ghost use Rattle.hash_bank.specs.declared.bank.Bank.TheVariants.{Sha256};
 ghost use Rattle.hash_bank.specs.HashedString.{HashedString, NoClash};
+ghost use Rattle.hash_bank.specs.declared.banks.Banks.{Banks};
 ghost use Rattle.policy_digest.specs.Plain.{plain_table};
 ghost use Rattle.policy_digest.specs.PlainTable.{PlainRow, PlainTable, root_of, top_of_row};
 ghost use Rattle.policy_digest.specs.Table.{valid_table};
@@ -13,12 +14,15 @@ ghost use Rattle.policy_roots.specs.Held.{AreHeld};
 ghost use Rattle.policy_roots.specs.Rows.{HasLists, HasRows};
 ghost use Rattle.tpm_model.specs.declared.trail.TrailEntry.{TrailEntry};
 ghost use Rattle.tpm_model.specs.declared.trail.TrailEntry.TheVariants.{Pcr};
+ghost use Rattle.tpm_model.specs.Opening.{Open};
+ghost use Rattle.tpm_model.specs.Pcrs.{HasValues};
 ghost use Rattle.tpm_model.specs.SessionRules.{are_members};
 ghost use Rattle.tpm_model.specs.Shape.{IsEntryShape};
 ghost use Rattle.tpm_model.specs.Trails.{trail_digest};
 ghost use Rattle.tpm_model.specs.ValidTable.{IsValidTable};
 ghost use Rattle.tpm_model.specs.WholeTie.{AreTiedEntries};
 ghost use Rattle.tpm_model.specs.World.{World};
+ghost use Rattle.tpm_walks.specs.ByValues.{IsOpenByValues};
 ghost use Rattle.tpm_walks.specs.Known.{IsTrail};
 ghost use Rattle.tpm_walks.specs.Walks.{EndsWithRow, LooksAt, ReadsNot, Walks, row_entries};
 
@@ -64,4 +68,11 @@ pub fn walks_are_in_order()
     ensures empty { (bank : Bank) (row : PlainRow) (rows : List PlainRow) → Walks [] (record { bank = bank; rows = row ∷ rows }) → ⊥ }
     ensures looks { (table : PlainTable) (trail : List TrailEntry) → Walks trail table → AllByRecursion (λ (row : PlainRow). LooksAt table.bank row trail) table.rows }
     ensures reads_not { (table : PlainTable) (trail : List TrailEntry) → Walks trail table → AllByRecursion ReadsNot trail }
+{}
+
+/// A valid table is open exactly where its bank is present, and for each of its rows the values that the row's PCRs
+/// hold, in ascending order, are one of the row's lists.
+pub fn tables_are_open_by_values()
+    ensures values { (table : Table) (banks : Banks) (pcrs : List (List ℕ)) → valid_table table ≡ true → HasValues banks pcrs
+        → Open (plain_table table) banks pcrs ↔ IsOpenByValues table banks pcrs }
 {}

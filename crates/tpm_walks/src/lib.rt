@@ -5,5 +5,6 @@
 mod laws;
 
 pub use crate::laws::{
-    rows_are_walked, tables_are_walked, tied_trails_are_known, walks_are_in_order,
+    rows_are_walked, tables_are_open_by_values, tables_are_walked, tied_trails_are_known,
+    walks_are_in_order,
 };

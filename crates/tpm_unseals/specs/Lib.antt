@@ -1,0 +1,2 @@
+pub mod ByPolicy
+pub mod OneList
