@@ -15,7 +15,8 @@ use Rattle.policy_session.specs.declared.index.IndexError.{IndexError}
 use Rattle.policy_session.specs.declared.index.IndexError.TheVariants as error
 use Rattle.policy_session.specs.Answers.{is_answer, is_refusal}
 use Rattle.policy_session.specs.IndexReads.{IsRead, content_in, index_read, is_reading, is_told, public_in, read_found, read_written}
-use Rattle.policy_session.specs.Ran.{Gives, IsLive, Ran}
+use Rattle.policy_session.specs.Ran.{Gives, Ran}
+use Rattle.tpm_device.specs.Running.{IsLive}
 
 -- both leave the state
 public_left : (r : Result NvPublic NvRefusal) (index : ℕ) (s : Parts) → (public_answer r index s).1 ≡ s

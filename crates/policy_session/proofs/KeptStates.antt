@@ -13,7 +13,8 @@ use Rattle.tpm_model.specs.Rules.{HasRules}
 use Rattle.tpm_model.proofs.KeepsRules.{keeps-start_session, keeps-policy_pcr, keeps-flush_session}
 use Rattle.policy_session.specs.declared.error.UnsealError.{UnsealError}
 use Rattle.policy_session.specs.declared.error.UnsealError.TheVariants as error
-use Rattle.policy_session.specs.Kept.{DiffersInSessions, IsKept}
+use Rattle.policy_session.specs.Kept.{IsKept}
+use Rattle.tpm_device.specs.Running.{DiffersInSessions}
 use Rattle.policy_session.specs.LiteralUnseal.{opened, opened_at, after_unseal}
 use Rattle.policy_session.specs.OpenSession.{with_open, closed, fresh_in, bound_in, IsOpen, start_answer, start_leaves, bind_leaves}
 use Rattle.policy_session.proofs.StepAnswers.{starts, binds, flushes}

@@ -13,7 +13,7 @@ use Rattle.tpm_model.proofs.OnePcr.{present_value}
 use Rattle.tpm_model.proofs.PcrPlaces.{IsValueAt, value_at}
 use Rattle.tpm_device.specs.Stored.{Stored}
 use Rattle.policy_session.specs.OpenSession.{with_open}
-use Rattle.policy_session.specs.Ran.{IsLive}
+use Rattle.tpm_device.specs.Running.{IsLive}
 
 -- the PCRs before this one were read; the mask that is left is that of the others
 pub record IsReading (bank : Bank) (pcrs : ℕ) (x : Session) (s : Parts) (keeps : Bool) (pcr left : ℕ) (so_far : List (List ℕ)) (live : Option Parts) (stored : Option Stored) : Type 0 where

@@ -9,7 +9,8 @@ use Rattle.tpm_model.specs.Respond.{respond}
 use Rattle.policy_session.specs.declared.error.UnsealError.{UnsealError}
 use Rattle.policy_session.specs.Answers.{Told, is_answer}
 use Rattle.policy_session.specs.Kept.{IsKept, Stores}
-use Rattle.policy_session.specs.Ran.{Gives, IsLive, Ran}
+use Rattle.policy_session.specs.Ran.{Gives, Ran}
+use Rattle.tpm_device.specs.Running.{IsLive}
 
 -- the answer is that of the state, and the next state stands after it
 abbrev pub AsksSo : Command → Parts → Result Response UnsealError → Parts → Type 0

@@ -22,7 +22,8 @@ use Rattle.policy_session.specs.declared.error.UnsealError.{UnsealError}
 use Rattle.policy_session.specs.Answers.{is_answer}
 use Rattle.policy_session.specs.Kept.{IsKept}
 use Rattle.policy_session.specs.OpenSession.{IsOpen, with_open}
-use Rattle.policy_session.specs.Ran.{IsLive, Ran}
+use Rattle.policy_session.specs.Ran.{Ran}
+use Rattle.tpm_device.specs.Running.{IsLive}
 use Rattle.policy_session.specs.Standing.{IsOut, StandsAt, WalkedTo, commands_left, comes_to, left_of}
 use Rattle.policy_session.proofs.GoesOn.{GoesOn, goes}
 use Rattle.policy_session.proofs.Runs.{ran_err, ran_ok}

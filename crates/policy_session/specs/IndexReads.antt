@@ -11,7 +11,7 @@ use Rattle.tpm_model.specs.declared.response.Response.TheVariants as answer
 use Rattle.policy_session.specs.declared.index.IndexError.{IndexError}
 use Rattle.policy_session.specs.declared.index.IndexError.TheVariants as error
 use Rattle.policy_session.specs.Kept.{Kept}
-use Rattle.policy_session.specs.Ran.{IsLive}
+use Rattle.tpm_device.specs.Running.{IsLive}
 
 -- the public area in an answer, and the content
 abbrev pub public_in : Response → Option NvPublic

@@ -3,20 +3,11 @@ use Rattle.std.specs.Prelude.{◌≡◌, true, false, Result, Option, Some}
 use Rattle.tpm_model.specs.declared.parts.Parts.{Parts}
 use Rattle.tpm_model.specs.Rules.{HasRules}
 use Rattle.tpm_device.specs.Stored.{Stored, Holds}
+pub use Rattle.tpm_device.specs.Running.{DiffersInSessions}
 use Rattle.policy_session.specs.declared.error.UnsealError.{UnsealError}
 use Rattle.policy_session.specs.Answers.{is_answer}
 
--- the second state differs from the first at most in the open sessions and the next one's number
-pub record DiffersInSessions (before now : Parts) : Type 0 where
-  pub banks : now.banks ≡ before.banks
-  pub pcrs : now.pcrs ≡ before.pcrs
-  pub update_counter : now.update_counter ≡ before.update_counter
-  pub write_counter : now.write_counter ≡ before.write_counter
-  pub next_object : now.next_object ≡ before.next_object
-  pub indices : now.indices ≡ before.indices
-  pub objects : now.objects ≡ before.objects
-
--- and it has the rules of a state
+-- the second state differs from the first at most in its sessions, and has the rules of a state
 pub record IsKept (before now : Parts) : Type 0 where
   pub rules : HasRules now
   pub differs : DiffersInSessions before now

@@ -1,15 +1,11 @@
 -- What a device tells around a client's commands, its live state and what it stores at once.
-use Rattle.std.specs.Prelude.{◌≡◌, Bool, true, false, Option, Some, Result}
+use Rattle.std.specs.Prelude.{◌≡◌, Bool, true, false, Option, Result}
 use Rattle.tpm_model.specs.declared.parts.Parts.{Parts}
-use Rattle.tpm_device.specs.Stored.{Stored, Holds}
+use Rattle.tpm_device.specs.Running.{IsLive}
+use Rattle.tpm_device.specs.Stored.{Stored}
 use Rattle.policy_session.specs.declared.error.UnsealError.{UnsealError}
 use Rattle.policy_session.specs.Answers.{is_answer}
 use Rattle.policy_session.specs.Kept.{Kept}
-
--- the state is live, and stored where the device tells what it stores
-pub record IsLive (keeps : Bool) (s : Parts) (live : Option Parts) (stored : Option Stored) : Type 0 where
-  pub now : live ≡ Some s
-  pub same : keeps ≡ true → stored ≡ Some (Holds s)
 
 -- an answer and the state after it: the state is live, and the device ready
 pub record Answered {A : Type 0} (keeps : Bool) (Good : Result A UnsealError → Parts → Type 0) (result : Result A UnsealError) (ready : Bool) (live : Option Parts) (stored : Option Stored) : Type 0 where

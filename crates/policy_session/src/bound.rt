@@ -27,7 +27,8 @@ ghost use Rattle.policy_session.specs.Kept.{IsKept};
 ghost use Rattle.policy_session.specs.LiteralUnseal.{after_unseal, opened_by};
 ghost use Rattle.policy_session.specs.OpenSession.{IsOpen, closed, start_answer, start_leaves, with_open};
 ghost use Rattle.policy_session.specs.Responses.{done};
-ghost use Rattle.policy_session.specs.Ran.{Gives, IsLive, Ran};
+ghost use Rattle.policy_session.specs.Ran.{Gives, Ran};
+ghost use Rattle.tpm_device.specs.Running.{IsLive};
 ghost use Rattle.policy_session.specs.Standing.{IsAuthorised, IsOut, StandsAt, StandsPast, comes_to};
 
 use crate::UnsealError;
@@ -317,7 +318,8 @@ fn start_walk<T: Tpm>(
     ensures never { IfErr result IsNeverLiteral }
     ensures readiness { answers result ≡ true → T.ready tpm.new ≡ true }
     ensures bank { IfOk result (λ started. started.plan.bank ≡ prepared.plan.bank) }
-    ensures ran { (s : Parts) (keeps : Bool) → IsLive keeps s (T.live tpm.old) (T.stored tpm.old) → HasRules s
+    ensures rules { (s : Parts) → T.live tpm.old ≡ Some s → HasRules s }
+    ensures ran { (s : Parts) (keeps : Bool) → IsLive keeps s (T.live tpm.old) (T.stored tpm.old)
         → Ran s keeps (Gives (walk_from prepared (start_answer s)) (start_leaves Sha256 s)) result (T.ready tpm.new) (T.live tpm.new) (T.stored tpm.new) }
 {
     match ask(alloc, tpm, &prepared.command()) {
@@ -351,9 +353,9 @@ pub fn unseal_bound<T: Tpm>(
     ensures cause { HasCause (T.faults tpm.old) (T.faults tpm.new) (result ≡ Err UnsealError.Failed) }
     ensures never { IfErr result IsNeverLiteral }
     ensures readiness { answers result ≡ true → T.ready tpm.new ≡ true }
-    ensures ran { (s : Parts) (table : Table) (public : NvPublic) (keeps : Bool) → IsLive keeps s (T.live tpm.old) (T.stored tpm.old) → HasRules s → IsPrepared prepared table public s
+    ensures ran { (s : Parts) (table : Table) (public : NvPublic) (keeps : Bool) → IsLive keeps s (T.live tpm.old) (T.stored tpm.old) → IsPrepared prepared table public s
         → Ran s keeps (Gives (opened_bound table.bank public object (bound_end (plain_table table) s) s) (after_unseal s)) result (T.ready tpm.new) (T.live tpm.new) (T.stored tpm.new) }
-    ensures rules { (s : Parts) → T.live tpm.old ≡ Some s → HasRules s → HasRules (after_unseal s) }
+    ensures rules { (s : Parts) → T.live tpm.old ≡ Some s → HasRules (after_unseal s) }
     // by the values of the PCRs, where none of the strings of the table and of the walk clash
     ensures foreseen { (s : Parts) (table : Table) (public : NvPublic) (hashed : List HashedString) → IsPrepared prepared table public s → NoClash (Contains hashed)
         → AreAmong hashed (table_strings (plain_table table)) → AreAmong hashed (bound_strings (plain_table table) s)

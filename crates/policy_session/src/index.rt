@@ -6,7 +6,8 @@ ghost use Rattle.tpm_model.specs.IndexCommands.{nv_read, nv_read_public};
 ghost use Rattle.tpm_model.specs.Rules.{HasRules};
 ghost use Rattle.policy_session.specs.Answers.{is_answer as answers, is_refusal};
 ghost use Rattle.policy_session.specs.IndexReads.{IsRead, content_in as content_of, index_read, is_reading, is_told, public_in as public_of};
-ghost use Rattle.policy_session.specs.Ran.{Gives, IsLive, Ran};
+ghost use Rattle.policy_session.specs.Ran.{Gives, Ran};
+ghost use Rattle.tpm_device.specs.Running.{IsLive};
 
 use crate::UnsealError;
 use crate::steps::ask;
@@ -59,8 +60,9 @@ fn read_public<T: Tpm>(
     ensures cause { HasCause (T.faults tpm.old) (T.faults tpm.new) (result ≡ Err UnsealError.Failed) }
     ensures outside { IfErr result (λ error. is_refusal error ≡ false) }
     ensures readiness { answers result ≡ true → T.ready tpm.new ≡ true }
-    ensures ran { (s : Parts) (keeps : Bool) → IsLive keeps s (T.live tpm.old) (T.stored tpm.old) → HasRules s
+    ensures ran { (s : Parts) (keeps : Bool) → IsLive keeps s (T.live tpm.old) (T.stored tpm.old)
         → Ran s keeps (Gives (Ok (public_of (nv_read_public index s).0)) s) result (T.ready tpm.new) (T.live tpm.new) (T.stored tpm.new) }
+    ensures rules { (s : Parts) → T.live tpm.old ≡ Some s → HasRules s }
 {
     match ask(alloc, tpm, &Command::NvReadPublic { index }) {
         Ok(response) => Ok(public_in(&response)),
@@ -78,7 +80,7 @@ fn read_content<T: Tpm>(
     ensures cause { HasCause (T.faults tpm.old) (T.faults tpm.new) (result ≡ Err UnsealError.Failed) }
     ensures outside { IfErr result (λ error. is_refusal error ≡ false) }
     ensures readiness { answers result ≡ true → T.ready tpm.new ≡ true }
-    ensures ran { (s : Parts) (keeps : Bool) → IsLive keeps s (T.live tpm.old) (T.stored tpm.old) → HasRules s
+    ensures ran { (s : Parts) (keeps : Bool) → IsLive keeps s (T.live tpm.old) (T.stored tpm.old)
         → Ran s keeps (Gives (Ok (content_of (nv_read index s).0)) s) result (T.ready tpm.new) (T.live tpm.new) (T.stored tpm.new) }
 {
     match ask(alloc, tpm, &Command::NvRead { index }) {
@@ -113,8 +115,9 @@ pub fn read_index<T: Tpm>(
     requires { T.ready tpm.old ≡ true }
     ensures cause { HasCause (T.faults tpm.old) (T.faults tpm.new) (result ≡ Err IndexError.Failed) }
     ensures readiness { is_reading result ≡ true → T.ready tpm.new ≡ true }
-    ensures ran { (s : Parts) (keeps : Bool) → IsLive keeps s (T.live tpm.old) (T.stored tpm.old) → HasRules s
+    ensures ran { (s : Parts) (keeps : Bool) → IsLive keeps s (T.live tpm.old) (T.stored tpm.old)
         → IsRead s keeps (index_read index s) result (T.ready tpm.new) (T.live tpm.new) (T.stored tpm.new) }
+    ensures rules { (s : Parts) → T.live tpm.old ≡ Some s → HasRules s }
 {
     match read_public(alloc, tpm, index) {
         Ok(Some(public)) => match read_content(alloc, tpm, index) {

@@ -121,9 +121,9 @@ pub fn unseal_literal<T: Tpm>(
     ensures cause { HasCause (T.faults tpm.old) (T.faults tpm.new) (result ≡ Err UnsealError.Failed) }
     ensures never { IfErr result IsNeverForeseen }
     ensures readiness { answers result ≡ true → T.ready tpm.new ≡ true }
-    ensures told { (s : Parts) → T.live tpm.old ≡ Some s → HasRules s → Told (opened literal.now object s) (after_unseal s) result (T.ready tpm.new) (T.live tpm.new) }
-    ensures rules { (s : Parts) → T.live tpm.old ≡ Some s → HasRules s → HasRules (after_unseal s) }
-    ensures stored { (s : Parts) → T.live tpm.old ≡ Some s → HasRules s → T.stored tpm.old ≡ Some (Holds s) → Stores s (after_unseal s) result (T.stored tpm.new) }
+    ensures told { (s : Parts) → T.live tpm.old ≡ Some s → Told (opened literal.now object s) (after_unseal s) result (T.ready tpm.new) (T.live tpm.new) }
+    ensures rules { (s : Parts) → T.live tpm.old ≡ Some s → HasRules (after_unseal s) }
+    ensures stored { (s : Parts) → T.live tpm.old ≡ Some s → T.stored tpm.old ≡ Some (Holds s) → Stores s (after_unseal s) result (T.stored tpm.new) }
 {
     let session = start(alloc, tpm, literal.hash)?;
     let opened = walk(alloc, tpm, literal, session, object);

@@ -8,7 +8,8 @@ ghost use Rattle.tpm_model.specs.Pcrs.{pcr_of};
 ghost use Rattle.policy_session.specs.Answers.{is_answer as answers};
 ghost use Rattle.policy_session.specs.BoundUnseal.{IsNeverLiteral, present_values, shown as shown_of};
 ghost use Rattle.policy_session.specs.OpenSession.{IsOpen, with_open};
-ghost use Rattle.policy_session.specs.Ran.{Gives, IsLive, Ran};
+ghost use Rattle.policy_session.specs.Ran.{Gives, Ran};
+ghost use Rattle.tpm_device.specs.Running.{IsLive};
 
 use crate::UnsealError;
 use crate::responses::pcr_value;

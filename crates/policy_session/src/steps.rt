@@ -43,6 +43,7 @@ pub(crate) fn ask<T: Tpm>(
         → Told (Ok (respond command.now s).0) (respond command.now s).1 result (T.ready tpm.new) (T.live tpm.new) }
     ensures stored { (base s : Parts) → T.live tpm.old ≡ Some s → T.ready tpm.old ≡ true → T.stored tpm.old ≡ Some (Holds s)
         → IsKept base s → IsKept base (respond command.now s).1 → Stores base (respond command.now s).1 result (T.stored tpm.new) }
+    ensures rules { (s : Parts) → T.live tpm.old ≡ Some s → HasRules s }
 {
     match tpm.execute(alloc, command) {
         Ok(response) => Ok(response),
@@ -60,8 +61,9 @@ pub(crate) fn start<T: Tpm>(alloc: Global, tpm: &mut T, hash: Bank) -> Result<u3
     ensures readiness { answers result ≡ true → T.ready tpm.new ≡ true }
     ensures told { (s : Parts) → T.live tpm.old ≡ Some s → T.ready tpm.old ≡ true
         → Told (start_answer s) (start_leaves hash s) result (T.ready tpm.new) (T.live tpm.new) }
-    ensures stored { (s : Parts) → HasRules s → T.live tpm.old ≡ Some s → T.ready tpm.old ≡ true → T.stored tpm.old ≡ Some (Holds s)
+    ensures stored { (s : Parts) → T.live tpm.old ≡ Some s → T.ready tpm.old ≡ true → T.stored tpm.old ≡ Some (Holds s)
         → Stores s (start_leaves hash s) result (T.stored tpm.new) }
+    ensures rules { (s : Parts) → T.live tpm.old ≡ Some s → HasRules s }
 {
     let response = ask(alloc, tpm, &Command::StartSession { hash })?;
     started(hash, &response)

@@ -11,7 +11,8 @@ use Rattle.tpm_device.specs.Stored.{Stored, ExecuteGives, ExecuteStores}
 use Rattle.race_core.specs.declared.event.Event.{Event}
 use Rattle.race_core.specs.declared.playing.PlayError.{PlayError}
 use Rattle.race_core.specs.declared.playing.PlayError.TheVariants as error
-use Rattle.race_core.specs.Playing.{GivesAll, GivesOne, Playing, StopsAround, StopsAt, Tells, played, played_one}
+use Rattle.tpm_device.specs.Running.{IsLive}
+use Rattle.race_core.specs.Playing.{GivesAll, GivesOne, Playing, StopsAround, StopsAt, played, played_one}
 use Rattle.race_core.specs.Racing.{IsEvent, Racing, race_command}
 
 -- ---- one event that stops
@@ -56,13 +57,13 @@ same_place race q is = ap (λ (r : Racing). record { race = r; state = q.state }
 pub onward : (keeps : Bool) (events : List Event) (i : ℕ) (item : Event) (p : Playing) (race after : Racing) (live live_after : Option Parts) (stored stored_after : Option Stored)
     → i < length events → item ≡ get_or events i item
     → GivesAll keeps (take i events) p (Ok tt) race live stored
-    → ((s : Parts) (k : Bool) → Tells k s live stored → GivesOne k item (record { race = race; state = s }) (Ok tt) after live_after stored_after)
+    → ((s : Parts) (k : Bool) → IsLive k s live stored → GivesOne k item (record { race = race; state = s }) (Ok tt) after live_after stored_after)
     → GivesAll keeps (take (i + 1) events) p (Ok tt) after live_after stored_after
 onward keeps events i item p race after live live_after stored stored_after within is so_far one =
     let q : Playing = played (take i events) p in
     let given = one q.state keeps so_far.1 in
     let next : played_one item (record { race = race; state = q.state }) ≡ played (take (i + 1) events) p = ap (played_one item) (same_place race q so_far.0) ∙ played_next events i item p within is in
-    (given.0 ∙ ap (λ (r : Playing). r.race) next, subst (λ (r : Playing). Tells keeps r.state live_after stored_after) next given.1)
+    (given.0 ∙ ap (λ (r : Playing). r.race) next, subst (λ (r : Playing). IsLive keeps r.state live_after stored_after) next given.1)
 
 -- the item is there
 got : (events : List Event) (i : ℕ) (item : Event) → i < length events → item ≡ get_or events i item → slice_get events i ≡ Some item
@@ -74,7 +75,7 @@ got (event ∷ events) (suc i) item within is = got events i item (omega (arith,
 pub stops : (keeps : Bool) (events : List Event) (i : ℕ) (item : Event) (p : Playing) (error : PlayError) (race after : Racing) (live live_after : Option Parts) (stored stored_after : Option Stored)
     → i < length events → item ≡ get_or events i item
     → GivesAll keeps (take i events) p (Ok tt) race live stored
-    → ((s : Parts) (k : Bool) → Tells k s live stored → GivesOne k item (record { race = race; state = s }) (Err error) after live_after stored_after)
+    → ((s : Parts) (k : Bool) → IsLive k s live stored → GivesOne k item (record { race = race; state = s }) (Err error) after live_after stored_after)
     → StopsAt keeps events p error after live_after stored_after
 stops keeps events i item p error race after live live_after stored stored_after within is so_far one =
     let q : Playing = played (take i events) p in

@@ -4,6 +4,7 @@ use Rattle.tpm_model.specs.declared.command.Command.{Command}
 use Rattle.tpm_model.specs.declared.parts.Parts.{Parts}
 use Rattle.tpm_model.specs.declared.response.Response.{Response}
 use Rattle.tpm_model.specs.Respond.{respond}
+use Rattle.tpm_device.specs.Running.{IsLive}
 use Rattle.tpm_device.specs.Stored.{Stored, Holds}
 use Rattle.race_core.specs.declared.event.Event.{Event}
 use Rattle.race_core.specs.declared.playing.PlayError.{PlayError}
@@ -32,11 +33,6 @@ played (event ∷ events) p = played events (played_one event p)
 
 -- ---- what the device tells
 
--- the state is live; where the device tells what it stores, it is stored
-pub record Tells (keeps : Bool) (s : Parts) (live : Option Parts) (stored : Option Stored) : Type 0 where
-  pub now : live ≡ Some s
-  pub same : keeps ≡ true → stored ≡ Some (Holds s)
-
 -- where it stops at an event's command: the state before it or behind it is live, but for a fault, after which nothing
 -- is told; and it is stored. It is the one behind only where the race takes memory for the answer
 abbrev pub IsLiveAround : PlayError → Event → Playing → Response × Parts → Option Parts → Type 0
@@ -55,7 +51,7 @@ pub record StopsAround (keeps : Bool) (error : PlayError) (event : Event) (p : P
 -- the race behind it; or it stops at its command, and the race is as before
 abbrev pub GivesOne : Bool → Event → Playing → Result Unit PlayError → Racing → Option Parts → Option Stored → Type 0
 GivesOne keeps event p (Ok _) race live stored =
-    (race ≡ (played_one event p).race) × Tells keeps (played_one event p).state live stored
+    (race ≡ (played_one event p).race) × IsLive keeps (played_one event p).state live stored
 GivesOne keeps event p (Err error) race live stored = (race ≡ p.race) × StopsAround keeps error event p live stored
 
 -- it stops at the command of an event: the race is behind those before it
@@ -68,7 +64,7 @@ pub record StopsAt (keeps : Bool) (events : List Event) (p : Playing) (error : P
 
 abbrev pub GivesAll : Bool → List Event → Playing → Result Unit PlayError → Racing → Option Parts → Option Stored → Type 0
 GivesAll keeps events p (Ok _) race live stored =
-    (race ≡ (played events p).race) × Tells keeps (played events p).state live stored
+    (race ≡ (played events p).race) × IsLive keeps (played events p).state live stored
 GivesAll keeps events p (Err error) race live stored = StopsAt keeps events p error race live stored
 
 -- whether the device is ready then: not after a fault

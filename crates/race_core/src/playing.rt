@@ -3,7 +3,8 @@ ghost use Rattle.std.specs.Prelude.{◌≡◌, Bool, true, Some, Err, IfErr, len
 ghost use Rattle.std.specs.List.{AllByRecursion};
 ghost use Rattle.pl_base.specs.Faults.{HasCause};
 ghost use Rattle.tpm_model.specs.declared.parts.Parts.{Parts};
-ghost use Rattle.race_core.specs.Playing.{GivesAll, GivesOne, Tells, stays_ready};
+ghost use Rattle.tpm_device.specs.Running.{IsLive};
+ghost use Rattle.race_core.specs.Playing.{GivesAll, GivesOne, stays_ready};
 ghost use Rattle.race_core.specs.Racing.{IsEvent, race_command};
 
 use crate::event::Event;
@@ -35,7 +36,7 @@ fn give<T: Tpm>(
     ensures cause { HasCause (T.faults tpm.old) (T.faults tpm.new) (result ≡ Err PlayError.Failed) }
     ensures readiness { T.ready tpm.new ≡ stays_ready result }
     ensures clients { length race.new.clients ≡ length race.old.clients }
-    ensures told { (s : Parts) (keeps : Bool) → Tells keeps s (T.live tpm.old) (T.stored tpm.old)
+    ensures told { (s : Parts) (keeps : Bool) → IsLive keeps s (T.live tpm.old) (T.stored tpm.old)
         → GivesOne keeps event.now (record { race = race.old; state = s }) result race.new (T.live tpm.new) (T.stored tpm.new) }
 {
     match tpm.execute(alloc, command) {
@@ -60,7 +61,7 @@ fn play_one<T: Tpm>(
     ensures cause { HasCause (T.faults tpm.old) (T.faults tpm.new) (result ≡ Err PlayError.Failed) }
     ensures readiness { T.ready tpm.new ≡ stays_ready result }
     ensures clients { length race.new.clients ≡ length race.old.clients }
-    ensures told { (s : Parts) (keeps : Bool) → Tells keeps s (T.live tpm.old) (T.stored tpm.old)
+    ensures told { (s : Parts) (keeps : Bool) → IsLive keeps s (T.live tpm.old) (T.stored tpm.old)
         → GivesOne keeps event.now (record { race = race.old; state = s }) result race.new (T.live tpm.new) (T.stored tpm.new) }
 {
     match race.command(event) {
@@ -87,7 +88,7 @@ pub fn play<T: Tpm>(
     ensures cause { HasCause (T.faults tpm.old) (T.faults tpm.new) (result ≡ Err PlayError.Failed) }
     ensures readiness { T.ready tpm.new ≡ stays_ready result }
     ensures clients { length race.new.clients ≡ length race.old.clients }
-    ensures told { (s : Parts) (keeps : Bool) → Tells keeps s (T.live tpm.old) (T.stored tpm.old)
+    ensures told { (s : Parts) (keeps : Bool) → IsLive keeps s (T.live tpm.old) (T.stored tpm.old)
         → GivesAll keeps events.now (record { race = race.old; state = s }) result race.new (T.live tpm.new) (T.stored tpm.new) }
 {
     for event in events {

@@ -18,26 +18,26 @@ use Rattle.policy_session.proofs.Starts.{kept_after}
 use Rattle.policy_session.proofs.bound.unseal_bound.Goals as goal
 
 pub returns-in-Ok-clause-ran : goal.returns-in-Ok-clause-ran
-returns-in-Ok-clause-ran g c = λ s table public keeps at rules prepared.
-    let a = (c.in-Ok.ensures.ran s keeps at rules).answered refl in
-    let b = begins_at c.args.prepared table public c.args.object s c.in-Ok.started rules prepared a.good.0 in
+returns-in-Ok-clause-ran g c = λ s table public keeps at prepared.
+    let a = (c.in-Ok.ensures.ran s keeps at).answered refl in
+    let b = begins_at c.args.prepared table public c.args.object s c.in-Ok.started (c.in-Ok.ensures.rules s at.now) prepared a.good.0 in
     let still = live_as keeps a.after (with_open (fresh_in Sha256 s) s) _ _ a.is (a.good.1 ∙ b.leaves) in
     let ran = c.walk.ensures.ran s (fresh_in Sha256 s) keeps public prepared.written still b.stands b.found b.holds in
     ran_same s (after_unseal s) keeps _ _ c.walk.result _ _ _
     (ran_left s (closed s) (after_unseal s) keeps _ c.walk.result _ _ _ ran (sym b.after)) b.answer
 
 pub returns-in-Err-clause-ran : goal.returns-in-Err-clause-ran
-returns-in-Err-clause-ran g c = λ s table public keeps at rules prepared.
-    ran_err s keeps (Gives (walk_from c.args.prepared (start_answer s)) (start_leaves Sha256 s)) _ c.in-Err.error _ _ _ (c.in-Err.ensures.ran s keeps at rules)
+returns-in-Err-clause-ran g c = λ s table public keeps at prepared.
+    ran_err s keeps (Gives (walk_from c.args.prepared (start_answer s)) (start_leaves Sha256 s)) _ c.in-Err.error _ _ _ (c.in-Err.ensures.ran s keeps at)
     (λ after good.
     let n = refuses_for c.args.prepared table public c.args.object c.in-Err.error s good.0 in
     (n.0, good.1 ∙ n.1))
 
 pub returns-in-Ok-clause-rules : goal.returns-in-Ok-clause-rules
-returns-in-Ok-clause-rules g c = λ s live rules. (kept_after Sha256 s rules (inl refl)).rules
+returns-in-Ok-clause-rules g c = λ s live. (kept_after Sha256 s (c.in-Ok.ensures.rules s live) (inl refl)).rules
 
 pub returns-in-Err-clause-rules : goal.returns-in-Err-clause-rules
-returns-in-Err-clause-rules g c = λ s live rules. (kept_after Sha256 s rules (inl refl)).rules
+returns-in-Err-clause-rules g c = λ s live. (kept_after Sha256 s (c.in-Err.ensures.rules s live) (inl refl)).rules
 
 pub returns-in-Ok-clause-foreseen : goal.returns-in-Ok-clause-foreseen
 returns-in-Ok-clause-foreseen g c = λ s table public hashed prepared safe own seen. foreseen table s hashed prepared.valid safe own seen

@@ -2,7 +2,7 @@ use Rattle.std.proofs.Common.{◌≡◌, ◌≤◌, Bool, true}
 use Rattle.tpm_model.specs.declared.parts.Parts.{Parts}
 use Rattle.tpm_model.specs.declared.sessions.Session.{Session}
 use Rattle.policy_session.specs.OpenSession.{with_open}
-use Rattle.policy_session.specs.Ran.{IsLive}
+use Rattle.tpm_device.specs.Running.{IsLive}
 use Rattle.policy_session.specs.Standing.{StandsAt, commands_left}
 use Rattle.policy_session.proofs.Turns.{IsOnward}
 use Rattle.policy_session.proofs.bound.walk_rows.Given as goal

@@ -13,22 +13,22 @@ use Rattle.policy_session.proofs.Runs.{AsksSo, ran_err, ran_of, ran_ok}
 use Rattle.policy_session.proofs.index.read_content.Goals as goal
 
 pub returns-in-Ok-clause-ran : goal.returns-in-Ok-clause-ran
-returns-in-Ok-clause-ran g c = λ s keeps at rules.
+returns-in-Ok-clause-ran g c = λ s keeps at.
     let asked = command.NvRead c.args.index in
     let same = leaves_content c.args.index s in
-    let next : IsKept s (respond asked s).1 = subst (IsKept s) (sym same) (kept_self s rules) in
+    let next : IsKept s (respond asked s).1 = subst (IsKept s) (sym same) (kept_self s (c.in-Ok.ensures.rules s at.now)) in
     let ran = ran_of asked asked s s keeps (Ok c.in-Ok.response) _ _ _ refl (c.in-Ok.ensures.told s at.now c.requires)
-    (λ k. c.in-Ok.ensures.stored s s at.now c.requires (at.same k) (kept_self s rules) next) in
+    (λ k. c.in-Ok.ensures.stored s s at.now c.requires (at.same k) (kept_self s (c.in-Ok.ensures.rules s at.now)) next) in
     ran_ok s keeps (AsksSo asked s) (Gives (Ok (content_in (nv_read c.args.index s).0)) s) c.in-Ok.response c.content_in.result _ _ _ ran
     (λ after good.
     let is : c.in-Ok.response ≡ (respond asked s).0 = cc in
     (ap Ok (c.content_in.ensures ∙ ap content_in is), good.1 ∙ same))
 
 pub returns-in-Err-clause-ran : goal.returns-in-Err-clause-ran
-returns-in-Err-clause-ran g c = λ s keeps at rules.
+returns-in-Err-clause-ran g c = λ s keeps at.
     let asked = command.NvRead c.args.index in
     let same = leaves_content c.args.index s in
-    let next : IsKept s (respond asked s).1 = subst (IsKept s) (sym same) (kept_self s rules) in
+    let next : IsKept s (respond asked s).1 = subst (IsKept s) (sym same) (kept_self s (c.in-Err.ensures.rules s at.now)) in
     let ran = ran_of asked asked s s keeps (Err c.in-Err.error) _ _ _ refl (c.in-Err.ensures.told s at.now c.requires)
-    (λ k. c.in-Err.ensures.stored s s at.now c.requires (at.same k) (kept_self s rules) next) in
+    (λ k. c.in-Err.ensures.stored s s at.now c.requires (at.same k) (kept_self s (c.in-Err.ensures.rules s at.now)) next) in
     ran_err s keeps (AsksSo asked s) (Gives (Ok (content_in (nv_read c.args.index s).0)) s) c.in-Err.error _ _ _ ran (λ after good. cc)

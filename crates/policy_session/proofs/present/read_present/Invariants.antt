@@ -3,7 +3,7 @@ use Rattle.hash_bank.specs.Banks.{has_bank}
 use Rattle.tpm_model.specs.declared.parts.Parts.{Parts}
 use Rattle.tpm_model.specs.declared.sessions.Session.{Session}
 use Rattle.policy_session.specs.OpenSession.{IsOpen, with_open}
-use Rattle.policy_session.specs.Ran.{IsLive}
+use Rattle.tpm_device.specs.Running.{IsLive}
 use Rattle.policy_session.proofs.Reading.{IsReading}
 use Rattle.policy_session.proofs.present.read_present.Given as goal
 

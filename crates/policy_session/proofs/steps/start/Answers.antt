@@ -14,7 +14,8 @@ returns-in_err-response-clause-told g c = λ s live ready.
     told_err (start_session c.args.hash s).0 _ (start_session c.args.hash s).1 _ c.ask.result c.from_residual.result c.in_err-response.field-0.0 _ _ was now (c.ask.ensures.told s live ready)
 
 pub returns-in_err-response-clause-stored : goal.returns-in_err-response-clause-stored
-returns-in_err-response-clause-stored g c = λ s h live ready stored.
+returns-in_err-response-clause-stored g c = λ s live ready stored.
+    let h = c.ask.ensures.rules s live in
     let m = starts c.args.hash s c.requires.hash in
     let now : c.from_residual.result ≡ Err c.in_err-response.field-0.0 = search rules in
     let was : c.ask.result ≡ Err c.in_err-response.field-0.0 = c.in_err-response.was in
@@ -26,7 +27,8 @@ returns-clause-told g c = λ s live ready.
     told_ok started (start_session c.args.hash s) _ _ c.in_ok-response.response c.started.result _ _ (starts c.args.hash s c.requires.hash) (c.in_ok-response.ensures.told s live ready) c.started.ensures.value
 
 pub returns-clause-stored : goal.returns-clause-stored
-returns-clause-stored g c = λ s h live ready stored.
+returns-clause-stored g c = λ s live ready stored.
+    let h = c.ask.ensures.rules s live in
     let m = starts c.args.hash s c.requires.hash in
     let was : c.ask.result ≡ Ok c.in_ok-response.response = c.in_ok-response.was in
     stores_ok s (start_session c.args.hash s) _ c.ask.result c.in_ok-response.response c.started.result _ m.1 was
