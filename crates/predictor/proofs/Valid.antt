@@ -346,8 +346,13 @@ together_valid tree window asked bank log locality now p variants e some =
     subst (λ (q : Protection). q.table.rows ≢ [] → valid_table q.table ≡ true) is
     (joint_valid bank states (λ pcrs list given. joint_sound bank locality pcrs window tree list variants given) f.0.0 r.0 rise r.1) some
 
+-- where each component has a variant
+pub plain_valid : (joint : Bool) (tree : List PlainComponent) (window : Window) (asked : ℕ) (bank : Bank) (log : List LogRow) (locality : ℕ) (now : List (List ℕ)) (p : Protection) → HasVariants tree
+    → protected_of joint tree window asked bank log locality now ≡ Ok p → p.table.rows ≢ [] → valid_table p.table ≡ true
+plain_valid true tree window asked bank log locality now p variants h = together_valid tree window asked bank log locality now p variants h
+plain_valid false tree window asked bank log locality now p variants h = each_valid tree window asked bank log locality now p variants h
+
 pub protected_valid : (joint : Bool) (components : List Component) (window : Window) (asked : ℕ) (bank : Bank) (log : List LogRow) (locality : ℕ) (now : List (List ℕ)) (result : Result Protection ProtectError)
     → Answers result (protected_of joint (plain components) window asked bank log locality now) → IfOk result (λ p. p.table.rows ≢ [] → valid_table p.table ≡ true)
-protected_valid true components window asked bank log locality now (Ok p) h = together_valid (plain components) window asked bank log locality now p (plain_variants components) h
-protected_valid false components window asked bank log locality now (Ok p) h = each_valid (plain components) window asked bank log locality now p (plain_variants components) h
+protected_valid joint components window asked bank log locality now (Ok p) h = plain_valid joint (plain components) window asked bank log locality now p (plain_variants components) h
 protected_valid joint components window asked bank log locality now (Err e) h = tt

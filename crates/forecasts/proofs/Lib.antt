@@ -1,0 +1,8 @@
+pub mod Found
+pub mod Explained
+pub mod Foreseeing
+pub mod EachRow
+pub mod Opened
+pub mod MaskOrder
+pub mod Together
+pub mod Tables
