@@ -1,3 +1,4 @@
 pub mod Acts
 pub mod Checked
 pub mod Each
+pub mod Passing

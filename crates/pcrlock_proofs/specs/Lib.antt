@@ -1,3 +1,4 @@
 pub mod CheckProof
 pub mod Prove
 pub mod Acts
+pub mod Passes

@@ -1,5 +1,5 @@
 //! `prove`: a file of the proofs of what is foreseen of some PCRs.
-ghost use Rattle.std.specs.Prelude.{◌≡◌, ◌≢◌, ◌≤◌, ◌<◌, ◌^◌, ◌++◌, ℕ, length, List as Sequence, Option as Maybe, Some, Ok, Err, IfOk, IfErr, OnOk};
+ghost use Rattle.std.specs.Prelude.{◌≡◌, ◌≢◌, ◌≤◌, ◌<◌, ◌^◌, ◌++◌, ℕ, true, length, List as Sequence, Option as Maybe, Some, Ok, Err, IfOk, IfErr, OnOk};
 ghost use Rattle.pl_base.specs.Faults.{HasCause};
 ghost use Rattle.pl_base.specs.FileMap.{FileMap};
 ghost use Rattle.component_tree.specs.PlainTree.{plain};
@@ -12,6 +12,8 @@ ghost use Rattle.pcrlock_line.specs.Stopped.{StandsAmong};
 ghost use Rattle.pcrlock_input.specs.Answering.{Answers};
 ghost use Rattle.pcrlock_lock.specs.FileChange.{files_between, HoldsOneOf};
 ghost use Rattle.pcrlock_lock.specs.Changing.{IsDone, changes_in};
+ghost use Rattle.predict_proof.specs.Words.{is_locality};
+ghost use Rattle.pcrlock_proofs.specs.Passes.{AreOf, Fit, FitOver, Passes};
 ghost use Rattle.pcrlock_proofs.specs.Prove.{proofs_for as proofs_for_mask, proofs_each as proofs_of_each, proofs_asked as proofs_of_asked, proofs_of, written, prove_line};
 
 use crate::asked::Asked;
@@ -42,6 +44,7 @@ fn proofs_for(
     ensures told { Answers (λ list. list) result (proofs_for_mask asked location.now (plain tree.now.components) mask) }
     ensures fine { result ≢ Err InputError.Failed }
     ensures few { IfOk result (λ list. length list ≤ 512) }
+    ensures passing { IfOk result (AreOf (length (pcrs_of mask)) asked location.now (plain tree.now.components)) }
 {
     match predict_proof::prove(alloc, tree, location, mask, asked.bank, asked.locality) {
         Ok(list) => Ok(list),
@@ -79,6 +82,7 @@ fn proofs_of_pcr(
     ensures told { Answers (λ list. list) result (proofs_for_mask asked location.now (plain tree.now.components) (2 ^ pcr)) }
     ensures fine { result ≢ Err InputError.Failed }
     ensures few { IfOk result (λ list. length list ≤ 512) }
+    ensures passing { IfOk result (AreOf 1 asked location.now (plain tree.now.components)) }
 {
     proofs_for(alloc, tree, location, asked, mask_of(pcr))
 }
@@ -102,6 +106,7 @@ fn proofs_each(
     ensures told { Answers (λ list. list) result (proofs_of_each asked location.now (plain tree.now.components) (pcrs_of asked.pcrs)) }
     ensures fine { result ≢ Err InputError.Failed }
     ensures few { IfOk result (λ list. length list ≤ 12288) }
+    ensures passing { IfOk result (AreOf 1 asked location.now (plain tree.now.components)) }
 {
     let mut list = Vec::new(alloc);
     for pcr in 0..PCR_COUNT {
@@ -127,6 +132,7 @@ fn proofs_asked(
     ensures told { Answers (λ list. list) result (proofs_of_asked asked location.now (plain tree.now.components)) }
     ensures fine { result ≢ Err InputError.Failed }
     ensures few { IfOk result (λ list. length list ≤ 12288) }
+    ensures passing { IfOk result (Fit asked location.now (plain tree.now.components)) }
 {
     if asked.joint {
         proofs_for(alloc, tree, location, asked, asked.pcrs)
@@ -148,6 +154,7 @@ fn proofs_over<F: Files>(
     ensures cause { HasCause (F.faults files.old) (F.faults files.new) (result ≡ Err InputError.Failed) }
     ensures told { (held : FileMap) → F.held files.old ≡ Some held → Answers (λ list. list) result (proofs_of asked location.now folders.now held) }
     ensures few { IfOk result (λ list. length list ≤ 12288) }
+    ensures passing { (held : FileMap) → F.held files.old ≡ Some held → IfOk result (FitOver asked location.now folders.now held) }
     ensures same { F.held files.new ≡ F.held files.old }
 {
     let tree = read_components(alloc, files, folders)?;
@@ -190,7 +197,7 @@ fn write_file<F: Files>(
 /// cuts of the window `location` and all choices of variants, with the first cut that has it and the
 /// first choice that leads to it there. Such a state tells the values of all asked PCRs at once, or, not
 /// joint, those of each asked PCR alone, ascending. It prints `proved` and the number of the proofs.
-/// `check_proof` finds each of them proved over the same components and window.
+/// `check_proof` finds each of them proved, as long as the file stands there and the components are the same.
 ///
 /// The components are those in the folders, of which the first hides what stands under the same names
 /// in those behind it.
@@ -226,6 +233,8 @@ pub fn prove<F: Files>(
         → IfOk result (λ reply. Gives (F.held files.new) stored words reply (prove_line output.now folders.now location.now asked m)) }
     ensures stops { (stored : Maybe Stored) (words : Maybe (Sequence (Sequence ℕ))) (m : Machine) → Tells (F.held files.old) stored words m
         → IfErr result (λ _. StandsAmong (F.held files.new) stored (prove_line output.now folders.now location.now asked m).stops) }
+    ensures passes { is_locality asked.locality ≡ true → (before written : FileMap) → F.held files.old ≡ Some before → F.held files.new ≡ Some written
+        → IfOk result (Passes output.now folders.now location.now before written) }
 {
     match proofs_over(alloc, files, folders, location, asked) {
         Ok(proofs) => write_file(alloc, files, output, asked, proofs),

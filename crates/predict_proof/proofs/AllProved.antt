@@ -195,6 +195,9 @@ module _ (bank : Bank) (locality mask : ℕ) (window : Window) (tree : List Plai
   pub first_shaped : 0 < mask → mask < 2 ^ 24 → All (HasShape bank) (first_proofs bank locality mask window tree)
   first_shaped some small = over_all (HasShape bank) (λ k c has chosen. record { some = some; in_range = small; values = state_fits bank locality (pcrs_of mask) (take k inside) c })
 
+  pub first_of_mask : All (λ q. q.pcrs ≡ mask) (first_proofs bank locality mask window tree)
+  first_of_mask = over_all (λ q. q.pcrs ≡ mask) (λ k c has chosen. refl)
+
   -- the proofs over the cuts, as the code counts them
   pub are_first : (components : List Component) (first : ℕ) (pcrs : List ℕ) (list : List Proof) → plain components ≡ inside → first ≡ first_cut window tree → pcrs ≡ pcrs_of mask
       → list ≡ over_cuts same_values (λ k. proofs_at bank locality mask pcrs k (take k (plain components))) (cuts_between first (length components)) → list ≡ first_proofs bank locality mask window tree

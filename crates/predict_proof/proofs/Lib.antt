@@ -19,3 +19,5 @@ pub mod NextLemmas
 pub mod SpreadLemmas
 pub mod AllProved
 pub mod Lines
+pub mod Sizes
+pub mod NoFault

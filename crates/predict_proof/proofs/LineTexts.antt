@@ -167,7 +167,7 @@ found_passes p (y ∷ xs) x h =
 bank_read : (word : List ℕ) (bank : Bank) → bank_of word ≡ Some bank → word ≡ name_in bank
 bank_read word bank h = sym (bytes_tell.equal (name_in bank) word (found_passes (λ b. bytes_eq (name_in b) word) (Sha1 ∷ Sha256 ∷ Sha384 ∷ Sha512 ∷ []) bank h))
 
-locality_within : (locality : ℕ) → is_locality locality ≡ true → locality ≤ 4
+pub locality_within : (locality : ℕ) → is_locality locality ≡ true → locality ≤ 4
 locality_within locality h =
     elim (or_cases (eqb locality 0 || eqb locality 3) (eqb locality 4) h) [
       | inr four ↦ omega (arith, eqb-true locality 4 four)

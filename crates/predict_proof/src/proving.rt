@@ -141,6 +141,7 @@ pub fn prove(
     ensures proofs { IfOk result (λ list. list ≡ first_proofs bank locality pcrs window.now (plain tree.now.components)) }
     ensures first { IfOk result (All (IsFirstOf (all_proofs bank locality pcrs window.now (plain tree.now.components)))) }
     ensures few { IfOk result (λ list. length list ≤ 512) }
+    ensures of_mask { IfOk result (All (λ q. q.pcrs ≡ pcrs)) }
     ensures shaped { IfOk result (All (HasShape bank)) }
     ensures lines { IfOk result (All (IsLine bank)) }
     ensures proved { IfOk result (All (Proved bank locality window.now (plain tree.now.components))) }

@@ -17,7 +17,7 @@ use Rattle.predict_proof.specs.Proved.{HasShape, Proved}
 use Rattle.predict_proof.specs.declared.proof.Proof.{Proof}
 use Rattle.predict_proof.specs.Proving.{all_proofs, values_in, IsFirstOf}
 use Rattle.predict_proof.proofs.Firsts.{firsts_kept}
-use Rattle.predict_proof.proofs.AllProved.{are_first, first_proved, first_shaped}
+use Rattle.predict_proof.proofs.AllProved.{are_first, first_of_mask, first_proved, first_shaped}
 use Rattle.predict_proof.proofs.Lines.{result_lines}
 use Rattle.predict_proof.proofs.proving.prove.Goals as goal
 
@@ -51,6 +51,14 @@ returns-clause-shaped c =
     IfOk-weaker c.spread.result _ _
     (λ list h. subst (All (HasShape c.args.bank)) (sym (are_first c.args.bank c.args.locality c.args.pcrs c.args.window.now tree c.components_inside-components.result.now c.inside-first.result c.as_slice-2.result.now list c.components_inside-components.ensures.value c.inside-first.ensures listed h))
     (first_shaped c.args.bank c.args.locality c.args.pcrs c.args.window.now tree c.requires.some c.requires.in_range)) c.spread.ensures.proofs
+
+pub returns-clause-of_mask : goal.returns-clause-of_mask
+returns-clause-of_mask c =
+    let tree = plain c.args.tree.now.components in
+    let listed : c.as_slice-2.result.now ≡ pcrs_of c.args.pcrs = c.as_slice-2.ensures ∙ c.in_ok-list.ensures.value in
+    IfOk-weaker c.spread.result _ _
+    (λ list h. subst (All (λ (q : Proof). q.pcrs ≡ c.args.pcrs)) (sym (are_first c.args.bank c.args.locality c.args.pcrs c.args.window.now tree c.components_inside-components.result.now c.inside-first.result c.as_slice-2.result.now list c.components_inside-components.ensures.value c.inside-first.ensures listed h))
+    (first_of_mask c.args.bank c.args.locality c.args.pcrs c.args.window.now tree)) c.spread.ensures.proofs
 
 pub returns-clause-proved : goal.returns-clause-proved
 returns-clause-proved c =
