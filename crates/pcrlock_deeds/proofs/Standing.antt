@@ -46,7 +46,7 @@ module _ (held : Option FileMap) (kept : Option Stored) where
   deed_first (boots s d) m at = inl at
   deed_first (draws next none) m at =
       by_words (StandsAmong held kept) m.draws (λ word rest. stops (next word) (drawn_live rest m)) (stops none m)
-      (λ word rest. deed_first (next word) (drawn_live rest m) (record { files = at.files; device = at.device; tells = at.tells; rules = at.rules; same = at.same })) (deed_first none m at)
+      (λ word rest. deed_first (next word) (drawn_live rest m) (record { files = at.files; device = at.device; tells = at.tells; same = at.same })) (deed_first none m at)
   deed_first (writes path bytes filing d) m at = inl at
   deed_first (removes path filing d) m at = inl at
 

@@ -4,8 +4,8 @@ use Rattle.tpm_model.specs.Events.{filed_world}
 use Rattle.tpm_model.specs.Orderly.{Orderly}
 use Rattle.tpm_model.specs.WholeTie.{IsFiledHashed}
 use Rattle.tpm_model.specs.World.{FiledPolicy, World}
+use Rattle.tpm_worlds.specs.SteadySessions.{SteadySessions}
 use Rattle.tpm_worlds.specs.WholeEvents.{OwnTie}
-use Rattle.tpm_worlds.proofs.WholeAfter.{SteadySessions}
 use Rattle.pcrlock_line.specs.Machine.{Live}
 use Rattle.pcrlock_deeds.specs.Deed.{keeps, files}
 use Rattle.pcrlock_deeds.specs.Filed.{Filed, HasNumber}

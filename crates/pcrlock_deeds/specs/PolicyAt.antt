@@ -29,3 +29,12 @@ policy_by path (Bytes bytes) = policy_read path (policy_in bytes)
 -- the policy that the file at the path spells, where one is there
 abbrev pub policy_of : FileMap → List ℕ → Result (Option Policy) Answer
 policy_of files path = policy_by path (content_of files path policy_limit)
+
+-- the policy of a command that can't do without one
+abbrev pub needed_of : List ℕ → Result (Option Policy) Answer → Result Policy Answer
+needed_of path (Ok (Some policy)) = Ok policy
+needed_of path (Ok None) = Err (said.NoPolicy path)
+needed_of path (Err answer) = Err answer
+
+abbrev pub policy_needed : FileMap → List ℕ → Result Policy Answer
+policy_needed files path = needed_of path (policy_of files path)

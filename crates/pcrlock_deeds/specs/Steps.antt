@@ -1,9 +1,10 @@
 -- What each step of a deed does to the machine and to the world.
-use Rattle.std.specs.Prelude.{ℕ, ◌+◌, ◌||◌, nat_le, if◌then◌else◌, List, [], ◌∷◌, length}
+use Rattle.std.specs.Prelude.{ℕ, List, [], ◌∷◌}
 use Rattle.std.specs.FinMap.{insert, remove}
 use Rattle.tpm_model.specs.declared.parts.Parts.{Parts}
 use Rattle.tpm_model.specs.declared.response.Response.{Response}
 use Rattle.tpm_model.specs.Events.{Event, command_of, filed_world}
+pub use Rattle.tpm_model.specs.OwnSession.{after_session}
 use Rattle.tpm_model.specs.Respond.{respond}
 use Rattle.tpm_model.specs.World.{World}
 use Rattle.pcrlock_line.specs.Machine.{Live}
@@ -21,12 +22,6 @@ answer_to event m = (respond (command_of event) m.state).0
 -- the machine after it
 abbrev pub sent_live : Event → Live → Live
 sent_live event m = record m { state = (respond (command_of event) m.state).1 }
-
--- where a session can start, its number is used; all else is as before
-abbrev pub after_session : Parts → Parts
-after_session s =
-    if nat_le 64 (length s.sessions) || nat_le 0x01000000 s.next_session then s
-    else record s { next_session = s.next_session + 1 }
 
 -- after a session of one's own
 abbrev pub walked_live : Live → Live

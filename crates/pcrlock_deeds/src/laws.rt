@@ -10,7 +10,7 @@ ghost use Rattle.tpm_model.specs.Pcrs.{bank_count};
 ghost use Rattle.tpm_model.specs.World.{AreHashed, LiveIndex, World};
 ghost use Rattle.tpm_worlds.specs.EventLists.{Safe};
 ghost use Rattle.tpm_worlds.specs.FreshWorld.{fresh_world};
-ghost use Rattle.tpm_worlds.proofs.TrailReads.{GrowsAll};
+ghost use Rattle.tpm_worlds.specs.Growth.{GrowsAll};
 ghost use Rattle.pcrlock_line.specs.Machine.{Live, Machine, machine};
 ghost use Rattle.pcrlock_line.specs.Outcome.{Ending, Outcome};
 ghost use Rattle.pcrlock_line.specs.Stopped.{StandsAmong, StandsAt};

@@ -11,4 +11,4 @@ pub use crate::laws::{
     deed_grows, deed_keeps_policy, deed_stands, forgotten_file_is_noticed, fresh_is_kept,
     line_keeps_policy, lost_index_is_noticed, policy_is_tied,
 };
-pub use crate::policy::policy_at;
+pub use crate::policy::{needed_policy, policy_at};

@@ -5,7 +5,7 @@ ghost use Rattle.policy_file.specs.PolicyReading.{policy_in};
 ghost use Rattle.policy_file.specs.PolicyText.{IsPolicy};
 ghost use Rattle.pcrlock_line.specs.Causes.{HasCauses};
 ghost use Rattle.pcrlock_line.specs.Content.{content_found};
-ghost use Rattle.pcrlock_deeds.specs.PolicyAt.{policy_read, policy_by, policy_of};
+ghost use Rattle.pcrlock_deeds.specs.PolicyAt.{policy_read, policy_by, policy_needed, policy_of};
 
 use pcrlock_answer::{Answer, Place};
 use pcrlock_line::{Found, Stop, read_file};
@@ -101,6 +101,47 @@ pub fn policy_at<F: Files>(
 {
     match read_file(alloc, files, path.text(), POLICY_LIMIT) {
         Ok(found) => policy_found(alloc, path, &found),
+        Err(stop) => Err(stop),
+    }
+}
+
+/// The answer where no policy file stands at the path.
+fn missing(alloc: Global, path: &Name) -> Result<Answer, Stop>
+    ensures told { IfOk result (λ answer. answer ≡ Answer.NoPolicy path.now) }
+    ensures cause { IfErr result (λ stop. stop ≡ Stop.Memory) }
+{
+    match path.copy(alloc) {
+        Ok(path) => Ok(Answer::NoPolicy(path)),
+        Err(_) => Err(Stop::Memory),
+    }
+}
+
+/// The policy that the file at the path spells, for a command that can't do without one. Or the answer:
+///
+/// | Answer | Cause |
+/// |---|---|
+/// | `NoPolicy` | no file stands at the path |
+/// | `Limit`, `policy-bytes` | the file has this many bytes, more than 4,194,304 |
+/// | `Malformed` | from this place on the file spells no policy |
+///
+/// The files stay as they are.
+pub fn needed_policy<F: Files>(
+    alloc: Global,
+    files: &mut F,
+    path: &Name,
+) -> Result<Result<Policy, Answer>, Stop>
+    ensures causes { HasCauses (F.faults files.old, 0, 0, 0) (F.faults files.new, 0, 0, 0) result }
+    ensures told { (held : FileMap) → F.held files.old ≡ Some held → IfOk result (λ found. found ≡ policy_needed held path.now) }
+    ensures valid { IfOk result (λ found. IfOk found IsPolicy) }
+    ensures same { F.held files.new ≡ F.held files.old }
+{
+    match policy_at(alloc, files, path) {
+        Ok(Ok(Some(policy))) => Ok(Ok(policy)),
+        Ok(Ok(None)) => match missing(alloc, path) {
+            Ok(answer) => Ok(Err(answer)),
+            Err(_) => Err(Stop::Memory),
+        },
+        Ok(Err(answer)) => Ok(Err(answer)),
         Err(stop) => Err(stop),
     }
 }

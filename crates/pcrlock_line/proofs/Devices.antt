@@ -40,7 +40,7 @@ told_live held stored words m s e t =
 
 -- a machine that is told stands
 pub stands : (held : Option FileMap) (stored : Option Stored) (words : Option (List (List ℕ))) (m : Machine) → Tells held stored words m → StandsAt held stored m
-stands held stored words m t = record { files = t.files; device = m.device; tells = t.state; rules = t.rules; same = same_stored m.device }
+stands held stored words m t = record { files = t.files; device = m.device; tells = t.state; same = same_stored m.device }
 
 -- a device that was refused, and keeps what it stored
 pub gives_refused : (held : Option FileMap) (stored : Option Stored) (words : Option (List (List ℕ))) (path : List ℕ) (m : Machine) (work : Live → Outcome) (answer : Answer)
@@ -64,7 +64,7 @@ stops_first held stored path m work at h = by m.device refl
 
 -- what is stored stays, and so does what is told
 pub kept_tells : (held : Option FileMap) (stored now : Option Stored) (words : Option (List (List ℕ))) (m : Machine) → now ≡ stored → Tells held stored words m → Tells held now words m
-kept_tells held stored now words m same t = record { files = t.files; state = same ∙ t.state; draws = t.draws; rules = t.rules }
+kept_tells held stored now words m same t = record { files = t.files; state = same ∙ t.state; draws = t.draws }
 
 -- a device that is ready with the state that it stores tells that state
 pub tells_begun : (held : Option FileMap) (stored now : Option Stored) (words : Option (List (List ℕ))) (m : Machine) (s : Parts) → now ≡ stored → m.device ≡ Holds s

@@ -2,7 +2,8 @@
 use Rattle.std.proofs.Common.{◌≡◌, refl, ◌∙◌}
 use Rattle.tpm_model.specs.declared.parts.Parts.{Parts}
 use Rattle.tpm_device.specs.Stored.{Stored, Holds, TooLarge, Malformed, BadRule}
-use Rattle.pcrlock_line.specs.Stopped.{DiffersInSessions, IsStoredSo}
+use Rattle.tpm_device.specs.Running.{DiffersInSessions}
+use Rattle.pcrlock_line.specs.Stopped.{IsStoredSo}
 
 pub same_parts : (s : Parts) → DiffersInSessions s s
 same_parts s = record { banks = refl; pcrs = refl; update_counter = refl; write_counter = refl; next_object = refl; indices = refl; objects = refl }

@@ -2,8 +2,7 @@
 use Rattle.std.specs.Prelude.{◌≡◌, ℕ, List, Option, Some}
 use Rattle.pl_base.specs.FileMap.{FileMap}
 use Rattle.tpm_model.specs.declared.parts.Parts.{Parts}
-use Rattle.tpm_model.specs.Rules.{HasRules}
-use Rattle.tpm_device.specs.Stored.{Stored, Holds, TooLarge, Malformed, BadRule}
+use Rattle.tpm_device.specs.Stored.{Stored, Holds}
 
 -- the files, what the TPM's device stores, and the random words to come
 pub record Machine : Type 0 where
@@ -20,16 +19,8 @@ pub record Live : Type 0 where
 abbrev pub machine : Live → Machine
 machine live = record { files = live.files; device = Holds live.state; draws = live.draws }
 
--- a state that is stored has its rules
-abbrev pub HasStoredRules : Stored → Type 0
-HasStoredRules (Holds s) = HasRules s
-HasStoredRules (TooLarge size) = Unit {0}
-HasStoredRules (Malformed place) = Unit {0}
-HasStoredRules (BadRule rule) = Unit {0}
-
--- the objects tell this machine, and a state that is stored has its rules
+-- the objects tell this machine
 pub record Tells (held : Option FileMap) (stored : Option Stored) (words : Option (List (List ℕ))) (m : Machine) : Type 0 where
   pub files : held ≡ Some m.files
   pub state : stored ≡ Some m.device
   pub draws : words ≡ Some m.draws
-  pub rules : HasStoredRules m.device

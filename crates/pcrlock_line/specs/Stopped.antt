@@ -3,18 +3,9 @@
 use Rattle.std.specs.Prelude.{◌≡◌, ◌⊎◌, List, [], ◌∷◌, Option, Some}
 use Rattle.pl_base.specs.FileMap.{FileMap}
 use Rattle.tpm_model.specs.declared.parts.Parts.{Parts}
+pub use Rattle.tpm_device.specs.Running.{DiffersInSessions}
 use Rattle.tpm_device.specs.Stored.{Stored, Holds, TooLarge, Malformed, BadRule}
-use Rattle.pcrlock_line.specs.Machine.{Machine, HasStoredRules}
-
--- the states differ at most in the open sessions and the number of the next one
-pub record DiffersInSessions (before now : Parts) : Type 0 where
-  pub banks : now.banks ≡ before.banks
-  pub pcrs : now.pcrs ≡ before.pcrs
-  pub update_counter : now.update_counter ≡ before.update_counter
-  pub write_counter : now.write_counter ≡ before.write_counter
-  pub next_object : now.next_object ≡ before.next_object
-  pub indices : now.indices ≡ before.indices
-  pub objects : now.objects ≡ before.objects
+use Rattle.pcrlock_line.specs.Machine.{Machine}
 
 -- the same is stored, but for sessions
 abbrev pub IsStoredSo : Stored → Stored → Type 0
@@ -28,7 +19,6 @@ pub record StandsAt (held : Option FileMap) (stored : Option Stored) (m : Machin
   pub files : held ≡ Some m.files
   pub device : Stored
   pub tells : stored ≡ Some device
-  pub rules : HasStoredRules device
   pub same : IsStoredSo m.device device
 
 -- the objects tell those of one of the machines

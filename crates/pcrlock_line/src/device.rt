@@ -1,5 +1,5 @@
 //! The device that a command uses.
-ghost use Rattle.std.specs.Prelude.{[], is_none, ◌≡◌, ℕ, true, None, Option, Some, IfOk, IfErr, IfSome, Result, Ok, Err};
+ghost use Rattle.std.specs.Prelude.{[], is_none, ◌≡◌, ℕ, true, None, Option, Some, IfOk, IfErr, Result, Ok, Err};
 ghost use Rattle.tpm_model.specs.declared.parts.Parts.{Parts};
 ghost use Rattle.tpm_device.specs.Stored.{Stored, Holds, TooLarge, Malformed, BadRule};
 ghost use Rattle.tpm_model.specs.Rules.{HasRules};
@@ -71,6 +71,7 @@ pub fn ready<T: Tpm>(alloc: Global, tpm: &mut T, path: &Name) -> Result<Option<A
     ensures told { (kept : Stored) → T.stored tpm.old ≡ Some kept → IfOk result (λ refusal. refusal ≡ state_refusal path.now kept) }
     ensures live { (s : Parts) → T.stored tpm.old ≡ Some (Holds s) → IfOk result (λ refusal. IsBegun s (T.ready tpm.new) (T.live tpm.new)) }
     ensures readiness { IfOk result (λ refusal. T.ready tpm.new ≡ is_none refusal) }
+    ensures rules { (s : Parts) → T.live tpm.new ≡ Some s → HasRules s }
     ensures same { T.stored tpm.new ≡ T.stored tpm.old }
 {
     match tpm.begin(alloc) {
@@ -91,7 +92,7 @@ pub fn ask<T: Tpm>(alloc: Global, tpm: &mut T, command: &Command) -> Result<Resp
         → IfOk result (λ response. IsAnswered command.now s response (T.ready tpm.new) (T.live tpm.new) (T.stored tpm.new)) }
     // A device that answered goes on, also where it tells nothing.
     ensures readiness { IfOk result (λ _. T.ready tpm.new ≡ true) }
-    ensures rules { (s : Parts) → T.live tpm.old ≡ Some s → HasRules s → IfSome (T.live tpm.new) HasRules }
+    ensures rules { (s : Parts) → T.live tpm.old ≡ Some s → HasRules s }
     ensures stops { (s : Parts) → T.live tpm.old ≡ Some s → T.stored tpm.old ≡ Some (Holds s)
         → IfErr result (λ _. IsStopped command.now s (T.stored tpm.new)) }
 {

@@ -6,7 +6,7 @@ use Rattle.tpm_device.specs.Stored.{Stored}
 use Rattle.pcrlock_answer.specs.declared.answer.Answer.{Answer}
 use Rattle.pcrlock_line.specs.declared.reply.Reply.{Reply}
 use Rattle.pcrlock_line.specs.declared.stop.Stop.{Stop}
-use Rattle.pcrlock_line.specs.Machine.{Machine, Tells, HasStoredRules}
+use Rattle.pcrlock_line.specs.Machine.{Machine, Tells}
 use Rattle.pcrlock_line.specs.Outcome.{Gives}
 use Rattle.pcrlock_line.specs.Stopped.{StandsAmong}
 use Rattle.pcrlock_line.proofs.Standing.{same_stored}
@@ -17,7 +17,7 @@ gives : (held now : Option FileMap) (stored : Option Stored) (words : Option (Li
     → Tells held stored words m → IsDone m.files now reply given → Gives now stored words reply (changing_line given m)
 gives held now stored words m reply given t d = record {
   ending = d.ending;
-  tells = record { files = d.files; state = t.state; draws = t.draws; rules = t.rules };
+  tells = record { files = d.files; state = t.state; draws = t.draws };
 }
 
 -- the reply of a work that is the definition's
@@ -30,10 +30,10 @@ done_told (Ok reply) held now stored words m found given e t d =
 done_told (Err stop) held now stored words m found given e t d = tt
 
 among : (now : Option FileMap) (stored : Option Stored) (m : Machine) (list : List FileMap)
-    → stored ≡ Some m.device → HasStoredRules m.device → HoldsOneOf now list → StandsAmong now stored (map (with_files m) list)
-among now stored m [] s r h = h
-among now stored m (files ∷ more) s r (inl h) = inl (record { files = h; device = m.device; tells = s; rules = r; same = same_stored m.device })
-among now stored m (files ∷ more) s r (inr h) = inr (among now stored m more s r h)
+    → stored ≡ Some m.device → HoldsOneOf now list → StandsAmong now stored (map (with_files m) list)
+among now stored m [] s h = h
+among now stored m (files ∷ more) s (inl h) = inl (record { files = h; device = m.device; tells = s; same = same_stored m.device })
+among now stored m (files ∷ more) s (inr h) = inr (among now stored m more s h)
 
 -- a stop of a work that is the definition's
 pub done_stops : (result : Result Reply Stop) (held now : Option FileMap) (stored : Option Stored) (words : Option (List (List ℕ))) (m : Machine) (found given : Result Work Answer)
@@ -42,7 +42,7 @@ pub done_stops : (result : Result Reply Stop) (held now : Option FileMap) (store
     → IfErr result (λ _. StandsAmong now stored (changing_line given m).stops)
 done_stops (Ok reply) held now stored words m found given e t h = tt
 done_stops (Err stop) held now stored words m found given e t h =
-    among now stored m (files_between (changes_in given) m.files) t.state t.rules
+    among now stored m (files_between (changes_in given) m.files) t.state
     (subst (λ (x : Result Work Answer). HoldsOneOf now (files_between (changes_in x) m.files)) e h)
 
 -- the files as they were are the first of those between the changes
@@ -54,7 +54,7 @@ first_between now (change ∷ more) files e = inl e
 pub stops_before : (held now : Option FileMap) (stored : Option Stored) (words : Option (List (List ℕ))) (m : Machine) (given : Result Work Answer)
     → now ≡ held → Tells held stored words m → StandsAmong now stored (changing_line given m).stops
 stops_before held now stored words m given same t =
-    among now stored m (files_between (changes_in given) m.files) t.state t.rules (first_between now (changes_in given) m.files (same ∙ t.files))
+    among now stored m (files_between (changes_in given) m.files) t.state (first_between now (changes_in given) m.files (same ∙ t.files))
 
 -- what is done is that of an equal work
 pub done_same : (result : Result Reply Stop) (held : FileMap) (now : Option FileMap) (found given : Result Work Answer)

@@ -22,7 +22,7 @@ last_stands held stored m (change ∷ more) files at = inr (last_stands held sto
 pub changing_first : (held : Option FileMap) (stored : Option Stored) (given : Result Work Answer) (m : Machine)
     → StandsAt held stored m → StandsAmong held stored (changing_line given m).stops
 changing_first held stored given m at =
-    first_stands held stored m (changes_in given) m.files (record { files = at.files; device = at.device; tells = at.tells; rules = at.rules; same = at.same })
+    first_stands held stored m (changes_in given) m.files (record { files = at.files; device = at.device; tells = at.tells; same = at.same })
 
 pub changing_last : (held : Option FileMap) (stored : Option Stored) (given : Result Work Answer) (m : Machine)
     → StandsAt held stored (changing_line given m).after → StandsAmong held stored (changing_line given m).stops

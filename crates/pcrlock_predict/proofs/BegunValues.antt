@@ -1,12 +1,11 @@
 -- The values over what is stored.
-use Rattle.std.proofs.Common.{◌≡◌, ℕ, List, refl, ap, ◌∙◌, subst}
+use Rattle.std.proofs.Common.{◌≡◌, ℕ, List, refl, ap, ◌∙◌}
 use Rattle.std.specs.Prelude.{Option, None, Some, Result, Err}
 use Rattle.hash_bank.specs.declared.bank.Bank.{Bank}
 use Rattle.tpm_model.specs.declared.parts.Parts.{Parts}
 use Rattle.tpm_device.specs.Stored.{Stored, Holds, TooLarge, Malformed, BadRule}
 use Rattle.pcrlock_answer.specs.declared.answer.Answer.{Answer}
 use Rattle.pcrlock_line.specs.Begun.{state_refusal}
-use Rattle.pcrlock_line.specs.Machine.{HasStoredRules}
 use Rattle.pcrlock_predict.specs.Present.{present_of, values_at, values_or_absent}
 use Rattle.pcrlock_line.specs.Running.{Runs}
 
@@ -26,9 +25,8 @@ values_refused (Malformed at) path bank asked answer e = let same : answer ≡ _
 values_refused (BadRule broken) path bank asked answer e = let same : answer ≡ _ = cc in ap Err same
 
 -- a device that is ready with the state that it stores runs with it
-pub runs_begun : (now : Option Parts) (before stored : Option Stored) (kept : Stored) (s : Parts) → now ≡ Some s → stored ≡ before → before ≡ Some kept → kept ≡ Holds s → HasStoredRules kept → Runs now stored s
-runs_begun now before stored kept s live same is holds rules = record {
+pub runs_begun : (now : Option Parts) (before stored : Option Stored) (kept : Stored) (s : Parts) → now ≡ Some s → stored ≡ before → before ≡ Some kept → kept ≡ Holds s → Runs now stored s
+runs_begun now before stored kept s live same is holds = record {
   live = live;
   stored = same ∙ is ∙ ap Some holds;
-  rules = let held : HasStoredRules (Holds s) = subst HasStoredRules holds rules in held;
 }

@@ -53,12 +53,11 @@ if_err P (Ok x) h = tt
 if_err P (Err e) h = h
 
 -- the device runs on with the state that it has
-pub runs_on : (now : Option Parts) (kept : Option Stored) (bank : Bank) (pcr : ℕ) (s : Parts) → pcr ≤ 23 → HasRules s
+pub runs_on : (now : Option Parts) (kept : Option Stored) (bank : Bank) (pcr : ℕ) (s : Parts) → pcr ≤ 23
     → now ≡ Some (pcr_read bank pcr s).1 → kept ≡ Some (Holds (pcr_read bank pcr s).1) → Runs now kept s
-runs_on now kept bank pcr s small rules live stored = record {
+runs_on now kept bank pcr s small live stored = record {
   live = live ∙ ap Some (read_keeps bank pcr s small);
   stored = stored ∙ ap (λ (x : Parts). Some (Holds x)) (read_keeps bank pcr s small);
-  rules = rules;
 }
 
 -- after a stop at a read the same state is stored

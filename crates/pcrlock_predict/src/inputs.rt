@@ -1,4 +1,4 @@
-//! What both commands read from files.
+//! What these commands, and that which makes a policy, read from files.
 ghost use Rattle.std.specs.Prelude.{◌≡◌, option_copied, Some, Err, IfOk};
 ghost use Rattle.pl_base.specs.Faults.{HasCause};
 ghost use Rattle.pl_base.specs.FileMap.{FileMap};
@@ -13,7 +13,7 @@ use std::alloc::Global;
 
 /// What was measured, and what a boot may measure.
 #[derive(Debug, Drop)]
-pub(crate) struct Inputs {
+pub struct Inputs {
     /// Both logs of the boot.
     pub logs: Logs,
     /// The components.
@@ -22,7 +22,12 @@ pub(crate) struct Inputs {
 
 /// The logs at the paths that are named, or at the usual ones, and then the components in the folders.
 /// The files stay as they are.
-pub(crate) fn read_inputs<F: Files>(
+///
+/// # Errors
+///
+/// Those of `read_logs` and then of `read_components` of `pcrlock_input`: the first answer for an input that can't be
+/// read, a failure of the files, or want of memory.
+pub fn read_inputs<F: Files>(
     alloc: Global,
     files: &mut F,
     firmware: Option<&Name>,

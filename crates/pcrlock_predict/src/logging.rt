@@ -2,7 +2,7 @@
 ghost use Rattle.std.specs.Prelude.{◌≡◌, ℕ, option_copied, List as Sequence, Option as Maybe, Some, Ok, IfOk, IfErr};
 ghost use Rattle.tpm_device.specs.Stored.{Stored};
 ghost use Rattle.pcrlock_line.specs.Causes.{HasCauses};
-ghost use Rattle.pcrlock_line.specs.Machine.{Machine, HasStoredRules, Tells};
+ghost use Rattle.pcrlock_line.specs.Machine.{Machine, Tells};
 ghost use Rattle.pcrlock_line.specs.Outcome.{Gives, ending_of};
 ghost use Rattle.pcrlock_input.specs.Logs.{AreRead};
 ghost use Rattle.pcrlock_predict.specs.Inputs.{plain_inputs};
@@ -69,9 +69,9 @@ fn log_from<T: Tpm>(
 ) -> Result<Reply, Stop>
     requires { AreRead inputs.now.logs }
     ensures causes { HasCauses (0, 0, T.faults tpm.old, 0) (0, 0, T.faults tpm.new, 0) result }
-    ensures told { (kept : Stored) → T.stored tpm.old ≡ Some kept → HasStoredRules kept
+    ensures told { (kept : Stored) → T.stored tpm.old ≡ Some kept
         → IfOk result (λ reply. ending_of reply ≡ printed (logged_at path.now bank (plain_inputs inputs.now) kept)) }
-    ensures same { (kept : Stored) → T.stored tpm.old ≡ Some kept → HasStoredRules kept → T.stored tpm.new ≡ Some kept }
+    ensures same { (kept : Stored) → T.stored tpm.old ≡ Some kept → T.stored tpm.new ≡ Some kept }
 {
     match read_values(alloc, tpm, path, bank, ALL_PCRS) {
         Ok(Ok(now)) => logged_reply(alloc, inputs, bank, now.as_slice()),

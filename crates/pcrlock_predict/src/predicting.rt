@@ -1,11 +1,12 @@
 //! `predict`: the values that PCRs may have while the boot goes on.
-ghost use Rattle.std.specs.Prelude.{◌≡◌, ◌≢◌, ℕ, codes, option_copied, slice_get, List as Sequence, Option as Maybe, Some, IfOk, IfErr};
+ghost use Rattle.std.specs.Prelude.{◌≡◌, ◌≢◌, [], true, ℕ, codes, option_copied, slice_get, List as Sequence, Option as Maybe, Some, IfOk, IfErr};
 ghost use Rattle.std.specs.Option.{option_map};
 ghost use Rattle.component_tree.specs.PlainTree.{plain, plain_component, plain_variant};
+ghost use Rattle.policy_digest.specs.Table.{valid_table};
 ghost use Rattle.predictor.specs.Protected.{Answers, protected_of};
 ghost use Rattle.tpm_device.specs.Stored.{Stored};
 ghost use Rattle.pcrlock_line.specs.Causes.{HasCauses};
-ghost use Rattle.pcrlock_line.specs.Machine.{Machine, HasStoredRules, Tells};
+ghost use Rattle.pcrlock_line.specs.Machine.{Machine, Tells};
 ghost use Rattle.pcrlock_line.specs.Outcome.{Fine, Refused, Gives, ending_of};
 ghost use Rattle.pcrlock_words.specs.PredictText.{predict_text as text_of};
 ghost use Rattle.pcrlock_input.specs.Logs.{AreRead, locality_in, plain_logs, rows_of};
@@ -93,17 +94,17 @@ fn too_many_values(alloc: Global) -> Result<Answer, Memory>
     })
 }
 
-/// What `predict` replies where nothing is protected.
-fn refusal(alloc: Global, tree: &Tree, error: ProtectError) -> Result<Reply, Memory>
-    ensures { IfOk result (λ reply. (error ≢ ProtectError.Memory) × (ending_of reply ≡ Refused (protect_answer (plain tree.now.components) error))) }
+/// The answer where nothing can be foreseen: `NoDigest`, or `Limit` of `values`. Want of memory is none.
+pub fn refusal(alloc: Global, tree: &Tree, error: ProtectError) -> Result<Answer, Memory>
+    ensures { IfOk result (λ answer. (error ≢ ProtectError.Memory) × (answer ≡ protect_answer (plain tree.now.components) error)) }
 {
     match error {
         ProtectError::NoDigest {
             component,
             variant,
             place,
-        } => Ok(Reply::Refused(no_digest(alloc, tree, component, variant, place)?)),
-        ProtectError::TooMany { .. } => Ok(Reply::Refused(too_many_values(alloc)?)),
+        } => no_digest(alloc, tree, component, variant, place),
+        ProtectError::TooMany { .. } => too_many_values(alloc),
         ProtectError::Memory => Err(Memory),
     }
 }
@@ -121,8 +122,13 @@ fn protection_reply(
     Ok(Reply::Fine(text))
 }
 
-/// What a policy can protect of the asked PCRs, whose values are those now.
-fn protected(
+/// What a policy can protect of the asked PCRs, whose values are those now, by the inputs; the replay begins at the
+/// locality that the firmware announced. A table with a row is valid.
+///
+/// # Errors
+///
+/// Those of `protect` of `predictor`.
+pub fn protected(
     alloc: Global,
     inputs: &Inputs,
     location: &Window,
@@ -133,7 +139,8 @@ fn protected(
 ) -> Result<Protection, ProtectError>
     requires read { AreRead inputs.now.logs }
     requires values { AreValues bank now.now }
-    ensures { Answers result (protected_of joint (plain inputs.now.tree.components) location.now asked bank (rows_of (plain_logs inputs.now.logs)) (locality_in inputs.now.logs.firmware) now.now) }
+    ensures valid { IfOk result (λ protection. protection.table.rows ≢ [] → valid_table protection.table ≡ true) }
+    ensures value { Answers result (protected_of joint (plain inputs.now.tree.components) location.now asked bank (rows_of (plain_logs inputs.now.logs)) (locality_in inputs.now.logs.firmware) now.now) }
 {
     let list = inputs.logs.combined(alloc)?;
     protect(
@@ -165,7 +172,7 @@ fn reply_for(
 {
     match protected(alloc, inputs, location, asked, bank, joint, now) {
         Ok(protection) => protection_reply(alloc, &inputs.tree, &protection, joint),
-        Err(error) => refusal(alloc, &inputs.tree, error),
+        Err(error) => Ok(Reply::Refused(refusal(alloc, &inputs.tree, error)?)),
     }
 }
 
@@ -203,9 +210,9 @@ fn predict_from<T: Tpm>(
 ) -> Result<Reply, Stop>
     requires { AreRead inputs.now.logs }
     ensures causes { HasCauses (0, 0, T.faults tpm.old, 0) (0, 0, T.faults tpm.new, 0) result }
-    ensures told { (kept : Stored) → T.stored tpm.old ≡ Some kept → HasStoredRules kept
+    ensures told { (kept : Stored) → T.stored tpm.old ≡ Some kept
         → IfOk result (λ reply. ending_of reply ≡ printed (predicted_at path.now location.now asked bank joint (plain_inputs inputs.now) kept)) }
-    ensures same { (kept : Stored) → T.stored tpm.old ≡ Some kept → HasStoredRules kept → T.stored tpm.new ≡ Some kept }
+    ensures same { (kept : Stored) → T.stored tpm.old ≡ Some kept → T.stored tpm.new ≡ Some kept }
 {
     match read_values(alloc, tpm, path, bank, asked) {
         Ok(Ok(now)) => predicted_reply(alloc, inputs, location, asked, bank, joint, now.as_slice()),

@@ -5,7 +5,6 @@ ghost use Rattle.tpm_model.specs.declared.parts.Parts.{Parts};
 ghost use Rattle.tpm_model.specs.Pcrs.{pcr_of};
 ghost use Rattle.tpm_device.specs.Stored.{Stored, Holds};
 ghost use Rattle.pcrlock_line.specs.Causes.{HasCauses};
-ghost use Rattle.pcrlock_line.specs.Machine.{HasStoredRules};
 ghost use Rattle.pcrlock_predict.specs.Present.{AreValues, asked_value as value_asked, present_of, reading_of, values_at, values_or_absent};
 ghost use Rattle.pcrlock_line.specs.Running.{Runs};
 
@@ -90,8 +89,10 @@ fn present_values<T: Tpm>(
 ) -> Result<Option<List<Digest>>, Stop>
     requires readiness { T.ready tpm.old ≡ true }
     ensures causes { HasCauses (0, 0, T.faults tpm.old, 0) (0, 0, T.faults tpm.new, 0) result }
+    ensures readiness { IfOk result (λ _. T.ready tpm.new ≡ true) }
     ensures sizes { IfOk result (λ found. IfSome found (AreValues bank)) }
     ensures told { (s : Parts) → Runs (T.live tpm.old) (T.stored tpm.old) s → IfOk result (λ found. found ≡ present_of bank asked s) }
+    ensures runs { (s : Parts) → Runs (T.live tpm.old) (T.stored tpm.old) s → IfOk result (λ _. Runs (T.live tpm.new) (T.stored tpm.new) s) }
     ensures same { (s : Parts) → Runs (T.live tpm.old) (T.stored tpm.old) s → T.stored tpm.new ≡ Some (Holds s) }
 {
     let mut values = List::new(alloc);
@@ -108,8 +109,10 @@ fn present_values<T: Tpm>(
     Ok(Some(values))
 }
 
-/// The present values on the ready device.
-fn values_ready<T: Tpm>(
+/// The present values in the bank of the 24 PCRs, ascending, on the ready device; zeros stand for the PCRs that the
+/// mask doesn't ask for. Or `BankAbsent` where a PCR is asked for and the state has no such bank. The state stays as
+/// it is, and the device goes on.
+pub fn values_ready<T: Tpm>(
     alloc: Global,
     tpm: &mut T,
     bank: Bank,
@@ -117,8 +120,10 @@ fn values_ready<T: Tpm>(
 ) -> Result<Result<List<Digest>, Answer>, Stop>
     requires readiness { T.ready tpm.old ≡ true }
     ensures causes { HasCauses (0, 0, T.faults tpm.old, 0) (0, 0, T.faults tpm.new, 0) result }
+    ensures readiness { IfOk result (λ _. T.ready tpm.new ≡ true) }
     ensures sizes { IfOk result (λ found. IfOk found (AreValues bank)) }
     ensures told { (s : Parts) → Runs (T.live tpm.old) (T.stored tpm.old) s → IfOk result (λ found. found ≡ values_or_absent bank (present_of bank asked s)) }
+    ensures runs { (s : Parts) → Runs (T.live tpm.old) (T.stored tpm.old) s → IfOk result (λ _. Runs (T.live tpm.new) (T.stored tpm.new) s) }
     ensures same { (s : Parts) → Runs (T.live tpm.old) (T.stored tpm.old) s → T.stored tpm.new ≡ Some (Holds s) }
 {
     match present_values(alloc, tpm, bank, asked) {
@@ -140,8 +145,8 @@ pub(crate) fn read_values<T: Tpm>(
 ) -> Result<Result<List<Digest>, Answer>, Stop>
     ensures causes { HasCauses (0, 0, T.faults tpm.old, 0) (0, 0, T.faults tpm.new, 0) result }
     ensures sizes { IfOk result (λ found. IfOk found (AreValues bank)) }
-    ensures told { (kept : Stored) → T.stored tpm.old ≡ Some kept → HasStoredRules kept → IfOk result (λ found. found ≡ values_at path.now bank asked kept) }
-    ensures same { (kept : Stored) → T.stored tpm.old ≡ Some kept → HasStoredRules kept → T.stored tpm.new ≡ Some kept }
+    ensures told { (kept : Stored) → T.stored tpm.old ≡ Some kept → IfOk result (λ found. found ≡ values_at path.now bank asked kept) }
+    ensures same { (kept : Stored) → T.stored tpm.old ≡ Some kept → T.stored tpm.new ≡ Some kept }
 {
     match ready(alloc, tpm, path) {
         Ok(None) => values_ready(alloc, tpm, bank, asked),

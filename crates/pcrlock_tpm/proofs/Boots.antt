@@ -1,6 +1,6 @@
 -- A restart and extends by records, one after the other.
 use Rattle.std.proofs.Common.{◌≡◌, ◌≢◌, ◌⊎◌, ℕ, ◌+◌, ◌<◌, ◌≤◌, zero, suc, Bool, true, false, List, [], ◌∷◌, length, map, take, get_or, inl, inr, refl, sym, ap, ◌∙◌, subst, arith, add-zero}
-use Rattle.std.specs.Prelude.{Option, Some, Result, Ok, Err, IfSome, IfErr, ◌==◌, unwrap_or}
+use Rattle.std.specs.Prelude.{Option, Some, Result, Ok, Err, IfErr, ◌==◌, unwrap_or}
 use Rattle.std.proofs.lemmas.Bool.{le-ltb, ne_eqb}
 use Rattle.std.proofs.lemmas.List.{length-map, length-take}
 use Rattle.std.proofs.lemmas.List.Sums.{fold_more}
@@ -12,7 +12,6 @@ use Rattle.pcr_replay.specs.Row.{Row, row, rows}
 use Rattle.tpm_model.specs.declared.parts.Parts.{Parts}
 use Rattle.tpm_model.specs.PcrCommands.{is_start_locality, restart, pcr_extend}
 use Rattle.tpm_model.specs.Pcrs.{bank_count}
-use Rattle.tpm_model.specs.Rules.{HasRules}
 use Rattle.tpm_model.specs.declared.response.Response.TheVariants as answer
 use Rattle.tpm_device.specs.Stored.{Stored, Holds}
 use Rattle.pcrlock_line.specs.declared.stop.Stop.{Stop}
@@ -44,20 +43,19 @@ extend_is r s free = rw (le-ltb 23 r.pcr r.in_range, ne_eqb s.update_counter 429
 -- ---- what a device tells afterwards
 
 -- it runs on with a state that it told
-pub runs_on : (now : Option Parts) (kept : Option Stored) (next t : Parts) → now ≡ Some next → kept ≡ Some (Holds next) → IfSome now HasRules → next ≡ t → Runs now kept t
-runs_on now kept next t live stored rules same = record {
+pub runs_on : (now : Option Parts) (kept : Option Stored) (next t : Parts) → now ≡ Some next → kept ≡ Some (Holds next) → next ≡ t → Runs now kept t
+runs_on now kept next t live stored same = record {
   live = live ∙ ap Some same;
   stored = stored ∙ ap (λ (x : Parts). Some (Holds x)) same;
-  rules = subst HasRules same (let told : IfSome (Some next) HasRules = subst (λ (o : Option Parts). IfSome o HasRules) live rules in told);
 }
 
 pub keeps : (now : Option Parts) (kept : Option Stored) (s : Parts) → Runs now kept s → Keeps kept s
-keeps now kept s h = record { stored = h.stored; rules = h.rules }
+keeps now kept s h = record { stored = h.stored }
 
 -- after a stop at a command
-pub stopped_at : (kept : Option Stored) (s next t : Parts) → (kept ≡ Some (Holds s)) ⊎ (kept ≡ Some (Holds next)) → HasRules s → HasRules t → next ≡ t → Keeps kept s ⊎ Keeps kept t
-stopped_at kept s next t (inl same) before after is = inl (record { stored = same; rules = before })
-stopped_at kept s next t (inr same) before after is = inr (record { stored = same ∙ ap (λ (x : Parts). Some (Holds x)) is; rules = after })
+pub stopped_at : (kept : Option Stored) (s next t : Parts) → (kept ≡ Some (Holds s)) ⊎ (kept ≡ Some (Holds next)) → next ≡ t → Keeps kept s ⊎ Keeps kept t
+stopped_at kept s next t (inl same) is = inl (record { stored = same })
+stopped_at kept s next t (inr same) is = inr (record { stored = same ∙ ap (λ (x : Parts). Some (Holds x)) is })
 
 -- ---- records one after the other
 
@@ -116,7 +114,7 @@ no_end b is_false is_true = absurd (cc (sym is_false ∙ is_true))
 
 -- the machine at a state that is stored
 pub stands_at : (held : Option FileMap) (kept : Option Stored) (m : Live) (s : Parts) → held ≡ Some m.files → Keeps kept s → StandsAt held kept (at_state m s)
-stands_at held kept m s files keeps = record { files = files; device = Holds s; tells = keeps.stored; rules = keeps.rules; same = holds_same s }
+stands_at held kept m s files keeps = record { files = files; device = Holds s; tells = keeps.stored; same = holds_same s }
 
 -- the first of the machines stands
 pub first_among : (held : Option FileMap) (kept : Option Stored) (m : Live) (list : List Row) (s : Parts) → held ≡ Some m.files → Keeps kept s

@@ -11,8 +11,6 @@ use Rattle.hash_bank.specs.Hash.{digest_in}
 use Rattle.tpm_model.specs.declared.parts.Parts.{Parts}
 use Rattle.tpm_model.specs.Pcrs.{after_extend, after_digests}
 use Rattle.tpm_model.specs.PcrCommands.{pcr_extend}
-use Rattle.tpm_model.specs.Rules.{HasRules}
-use Rattle.tpm_model.proofs.KeepsRules.{keeps-pcr_extend}
 use Rattle.tpm_device.specs.Stored.{Stored, Holds}
 use Rattle.tpm_model.specs.declared.response.Response.{Response}
 use Rattle.tpm_model.specs.declared.response.Response.TheVariants as answer
@@ -51,15 +49,15 @@ next_state s pcr digests bytes small h = rw (le-ltb 23 pcr small) (next_by s pcr
 
 -- what is stored after a stop at the extend is the state before, or the one afterwards
 stops_by : (held : Option FileMap) (now : Option Stored) (words : Option (List (List ℕ))) (m : Live) (pcr : ℕ) (bytes : List ℕ) (last : Bool)
-    → held ≡ Some m.files → HasRules m.state → HasRules (cond last m.state (extended_parts pcr bytes m.state))
+    → held ≡ Some m.files
     → (now ≡ Some (Holds m.state)) ⊎ (now ≡ Some (Holds (cond last m.state (extended_parts pcr bytes m.state))))
     → StandsAmong held now (cond {A = Outcome} last (refused_line (said.CounterEnd false) (machine m))
     (record { ending = Fine []; after = extended_machine pcr bytes m; hashed = []; stops = machine m ∷ extended_machine pcr bytes m ∷ [] })).stops
-stops_by held now words m pcr bytes true files rules next (inl same) = inl (record { files = files; device = Holds m.state; tells = same; rules = rules; same = holds_same m.state })
-stops_by held now words m pcr bytes true files rules next (inr same) = inl (record { files = files; device = Holds m.state; tells = same; rules = rules; same = holds_same m.state })
-stops_by held now words m pcr bytes false files rules next (inl same) = inl (record { files = files; device = Holds m.state; tells = same; rules = rules; same = holds_same m.state })
-stops_by held now words m pcr bytes false files rules next (inr same) =
-    inr (inl (record { files = files; device = Holds (extended_parts pcr bytes m.state); tells = same; rules = next; same = holds_same (extended_parts pcr bytes m.state) }))
+stops_by held now words m pcr bytes true files (inl same) = inl (record { files = files; device = Holds m.state; tells = same; same = holds_same m.state })
+stops_by held now words m pcr bytes true files (inr same) = inl (record { files = files; device = Holds m.state; tells = same; same = holds_same m.state })
+stops_by held now words m pcr bytes false files (inl same) = inl (record { files = files; device = Holds m.state; tells = same; same = holds_same m.state })
+stops_by held now words m pcr bytes false files (inr same) =
+    inr (inl (record { files = files; device = Holds (extended_parts pcr bytes m.state); tells = same; same = holds_same (extended_parts pcr bytes m.state) }))
 
 pub extend_stops : (held : Option FileMap) (stored now : Option Stored) (words : Option (List (List ℕ))) (m : Live) (pcr : ℕ) (digests : Digests) (bytes : List ℕ)
     → pcr ≤ 23 → AreHashes digests bytes → Tells held stored words (machine m)
@@ -67,8 +65,7 @@ pub extend_stops : (held : Option FileMap) (stored now : Option Stored) (words :
     → StandsAmong held now (extended_line pcr bytes m).stops
 extend_stops held stored now words m pcr digests bytes small h tells stopped =
     let there : (pcr_extend pcr digests m.state).1 ≡ state_after pcr bytes m.state = next_state m.state pcr digests bytes small h in
-    stops_by held now words m pcr bytes (m.state.update_counter == 4294967295) tells.files tells.rules
-    (subst HasRules there (keeps-pcr_extend pcr digests m.state tells.rules))
+    stops_by held now words m pcr bytes (m.state.update_counter == 4294967295) tells.files
     (subst (λ (s : Parts). (now ≡ Some (Holds m.state)) ⊎ (now ≡ Some (Holds s))) there stopped)
 
 -- an extend leaves the objects

@@ -18,10 +18,10 @@ returns-in-Ok-clause-told g c = λ words m tells.
     gives_found _ _ words m (inputs_of m.files (option_copied c.args.firmware) (option_copied c.args.user) c.args.folders.now) (plain_inputs c.in-Ok.inputs)
     (λ inputs. predicted_at c.args.path.now c.args.location.now c.args.asked c.args.bank c.args.joint inputs m.device) c.predict_from.result
     (c.in-Ok.ensures.told m.files tells.files)
-    (record { files = c.read_inputs.ensures.same ∙ tells.files; state = c.predict_from.ensures.same m.device tells.state tells.rules; draws = tells.draws; rules = tells.rules })
-    (c.predict_from.ensures.told m.device tells.state tells.rules)
+    (record { files = c.read_inputs.ensures.same ∙ tells.files; state = c.predict_from.ensures.same m.device tells.state; draws = tells.draws })
+    (c.predict_from.ensures.told m.device tells.state)
 
 pub returns-in-Ok-clause-stops : goal.returns-in-Ok-clause-stops
 returns-in-Ok-clause-stops g c = λ words m tells.
     if_err (Tells (g.F.Files.held c.read_inputs.new.files) (g.T.Tpm.stored c.predict_from.new.tpm) words m) c.predict_from.result
-    (record { files = c.read_inputs.ensures.same ∙ tells.files; state = c.predict_from.ensures.same m.device tells.state tells.rules; draws = tells.draws; rules = tells.rules })
+    (record { files = c.read_inputs.ensures.same ∙ tells.files; state = c.predict_from.ensures.same m.device tells.state; draws = tells.draws })

@@ -12,18 +12,18 @@ returns-in-Ok-clause-causes g c =
 pub returns-in-Ok-clause-told : goal.returns-in-Ok-clause-told
 returns-in-Ok-clause-told g c = λ s runs.
     let told = c.in-Ok.ensures.told s runs.live runs.stored in
-    told_by c.reading.result _ _ (c.reading.ensures.value ∙ ap (reading_of c.args.bank) told.answer) (read_tells c.args.bank c.args.pcr s c.requires.number runs.rules)
+    told_by c.reading.result _ _ (c.reading.ensures.value ∙ ap (reading_of c.args.bank) told.answer) (read_tells c.args.bank c.args.pcr s c.requires.number (c.in-Ok.ensures.rules s runs.live))
 
 pub returns-in-Ok-clause-runs : goal.returns-in-Ok-clause-runs
 returns-in-Ok-clause-runs g c = λ s runs.
     let told = c.in-Ok.ensures.told s runs.live runs.stored in
     if_ok (Runs (g.T.Tpm.live c.ask.new.tpm) (g.T.Tpm.stored c.ask.new.tpm) s) c.reading.result
-    (runs_on _ _ c.args.bank c.args.pcr s c.requires.number runs.rules told.live told.stored)
+    (runs_on _ _ c.args.bank c.args.pcr s c.requires.number told.live told.stored)
 
 pub returns-in-Ok-clause-same : goal.returns-in-Ok-clause-same
 returns-in-Ok-clause-same g c = λ s runs.
     let told = c.in-Ok.ensures.told s runs.live runs.stored in
-    (runs_on _ _ c.args.bank c.args.pcr s c.requires.number runs.rules told.live told.stored).stored
+    (runs_on _ _ c.args.bank c.args.pcr s c.requires.number told.live told.stored).stored
 
 pub returns-in-Err-clause-same : goal.returns-in-Err-clause-same
 returns-in-Err-clause-same g c = λ s runs.

@@ -17,7 +17,7 @@ pub returns-in-Ok-clause-stops : goal.returns-in-Ok-clause-stops
 returns-in-Ok-clause-stops g c = λ words m tells.
     subst (λ (r : Result PlainLogs Answer). IfErr c.boot.result (λ _. StandsAmong (g.F.Files.held c.read_logs.new.files) (g.T.Tpm.stored c.boot.new.tpm) (boot_outcome c.args.path.now c.args.locality c.args.banks r m).stops))
     (sym (c.in-Ok.ensures.told m.files tells.files))
-    (c.boot.ensures.stops (g.F.Files.held c.read_logs.new.files) words m (record { files = c.read_logs.ensures.same ∙ tells.files; state = tells.state; draws = tells.draws; rules = tells.rules }))
+    (c.boot.ensures.stops (g.F.Files.held c.read_logs.new.files) words m (record { files = c.read_logs.ensures.same ∙ tells.files; state = tells.state; draws = tells.draws }))
 
 pub returns-in-Ok-clause-tied : goal.returns-in-Ok-clause-tied
 returns-in-Ok-clause-tied g c = λ logs s w tie. boot_tied c.args.locality c.args.banks logs s w tie
