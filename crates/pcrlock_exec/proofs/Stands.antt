@@ -22,7 +22,7 @@ use Rattle.pcrlock_line.specs.Running.{Keeps}
 
 -- the machine at a state that is stored
 stands_at : (held : Option FileMap) (kept : Option Stored) (m : Live) (s : Parts) → held ≡ Some m.files → Keeps kept s → StandsAt held kept (at_state m s)
-stands_at held kept m s files keeps = record { files = files; device = Holds s; tells = keeps.stored; rules = keeps.rules; same = holds_same s }
+stands_at held kept m s files keeps = record { files = files; device = Holds s; tells = keeps.stored; same = holds_same s }
 
 -- the first of the machines stands
 first_among : (held : Option FileMap) (kept : Option Stored) (m : Live) (commands : List Command) (s : Parts) → held ≡ Some m.files → Keeps kept s

@@ -7,13 +7,19 @@ use Rattle.tpm_model.specs.declared.response.Response.{Response}
 use Rattle.tpm_model.specs.Respond.{respond}
 use Rattle.tpm_model.specs.Rules.{HasRules}
 use Rattle.tpm_model.specs.World.{World}
-use Rattle.tpm_model.specs.Events.{Other, world_after}
+use Rattle.tpm_model.specs.Events.{Clean, Other, world_after}
+use Rattle.tpm_model.specs.Orderly.{Orderly}
 use Rattle.tpm_worlds.specs.CommandLists.{state_after}
 use Rattle.tpm_worlds.specs.EventLists.{EachOpensByValue, Safe}
 use Rattle.tpm_worlds.specs.SealedTie.{SealedTie}
+use Rattle.tpm_worlds.specs.SteadySessions.{SteadySessions}
+use Rattle.tpm_worlds.specs.WholeEvents.{OwnTie}
 use Rattle.tpm_worlds.proofs.AfterCommand.{order_after_command, tied_after_command}
 use Rattle.tpm_worlds.proofs.CommandLists.{state_next}
 use Rattle.tpm_worlds.proofs.EachUnseal.{each_unseal, others_fair, tie_after_all}
+use Rattle.tpm_worlds.proofs.WholeLists.{others_sound}
+use Rattle.tpm_unseals.specs.ByPolicy.{EachOpens}
+use Rattle.tpm_unseals.proofs.EachUnseal.{each_unseal as each_by_binding}
 use Rattle.tpm_device.specs.Stored.{Stored}
 use Rattle.pcrlock_line.specs.Asked.{IsAnswered, IsStopped}
 use Rattle.pcrlock_line.specs.Causes.{HasCauses}
@@ -22,22 +28,21 @@ use Rattle.pcrlock_line.specs.declared.stop.Stop.TheVariants.{Memory}
 use Rattle.pcrlock_line.specs.Worlds.{IsTiedTo}
 use Rattle.pcrlock_line.proofs.Composed.{memory}
 use Rattle.pcrlock_exec.specs.Exec.{events_of, exec_world}
-use Rattle.pcrlock_exec.specs.Sending.{HasSizes, IsPartWay}
+use Rattle.pcrlock_exec.specs.Sending.{IsPartWay}
 use Rattle.pcrlock_line.specs.Running.{Keeps, Runs}
 use Rattle.pcrlock_exec.proofs.Lists.{commands_back}
-use Rattle.pcrlock_exec.proofs.Rules.{rules_after}
 
 -- ---- one command
 
 -- the device runs on with the state that the command leaves
-pub runs_on : (now : Option Parts) (kept : Option Stored) (c : Command) (s : Parts) (response : Response) (readiness : Bool) → HasSizes c → HasRules s
+pub runs_on : (now : Option Parts) (kept : Option Stored) (c : Command) (s : Parts) (response : Response) (readiness : Bool)
     → IsAnswered c s response readiness now kept → Runs now kept (respond c s).1
-runs_on now kept c s response readiness sizes rules told = record { live = told.live; stored = told.stored; rules = rules_after c s sizes rules }
+runs_on now kept c s response readiness told = record { live = told.live; stored = told.stored }
 
 -- what is stored after a stop at the command
-pub stopped_at : (kept : Option Stored) (c : Command) (s : Parts) → HasSizes c → HasRules s → IsStopped c s kept → Keeps kept s ⊎ Keeps kept (respond c s).1
-stopped_at kept c s sizes rules (inl same) = inl (record { stored = same; rules = rules })
-stopped_at kept c s sizes rules (inr next) = inr (record { stored = next; rules = rules_after c s sizes rules })
+pub stopped_at : (kept : Option Stored) (c : Command) (s : Parts) → IsStopped c s kept → Keeps kept s ⊎ Keeps kept (respond c s).1
+stopped_at kept c s (inl same) = inl (record { stored = same })
+stopped_at kept c s (inr next) = inr (record { stored = next })
 
 -- the device that answered keeps its state where the line finds no room
 pub kept_next : {A : Type 0} (P Q : Type 0) (result : Result A Stop) → Q → IfErr result (λ _. P ⊎ Q)
@@ -91,3 +96,6 @@ sealed_after_all commands s w rules t =
 
 pub opens_by_value : (commands : List Command) (s : Parts) (w : World) → HasRules s → SealedTie s w → Safe (exec_world commands s w) → EachOpensByValue (events_of commands) s w
 opens_by_value commands s w rules t safe = each_unseal (events_of commands) s w rules t (others_fair commands s w) safe
+
+pub each_opens : (commands : List Command) (s : Parts) (w : World) → Orderly s → OwnTie s w → SteadySessions s w → Clean (exec_world commands s w) → Safe (exec_world commands s w) → EachOpens (events_of commands) s w
+each_opens commands s w orderly own sessions clean safe = each_by_binding (events_of commands) s w orderly own sessions (others_sound commands s w) clean safe

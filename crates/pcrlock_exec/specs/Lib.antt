@@ -3,3 +3,4 @@ pub mod Exec
 pub mod Acts
 pub mod Sending
 pub mod Worlds
+pub mod Unseals

@@ -1,17 +1,10 @@
 -- Sending a list of commands to a device that tells its state.
 use Rattle.std.specs.Prelude.{◌≤◌, ℕ, List, length, take, Option}
 use Rattle.tpm_model.specs.declared.command.Command.{Command}
-use Rattle.tpm_model.specs.declared.command.Command.TheVariants as command
 use Rattle.tpm_model.specs.declared.parts.Parts.{Parts}
 use Rattle.tpm_device.specs.Stored.{Stored}
 use Rattle.pcrlock_line.specs.Running.{Keeps}
 use Rattle.tpm_worlds.specs.CommandLists.{state_after}
-
--- a list of digests has at most 8, and a secret at most 128 bytes
-abbrev pub HasSizes : Command → Type 0
-HasSizes (command.PolicyOr session list) = length list ≤ 8
-HasSizes (command.Seal policy secret) = length secret ≤ 128
-HasSizes _ = Unit {0}
 
 -- the state after some of the commands, the first ones, is stored
 pub record IsPartWay (kept : Option Stored) (commands : List Command) (s : Parts) : Type 0 where

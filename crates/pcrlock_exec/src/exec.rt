@@ -1,6 +1,8 @@
 //! `tpm-exec`: the commands of a file.
 ghost use Rattle.std.specs.Prelude.{◌≡◌, ◌⊎◌, ◌++◌, ℕ, true, List as Sequence, Option as Maybe, Some, IfOk, IfErr};
 ghost use Rattle.pl_base.specs.FileMap.{FileMap};
+ghost use Rattle.tpm_model.specs.Events.{Clean};
+ghost use Rattle.tpm_model.specs.Orderly.{Orderly};
 ghost use Rattle.tpm_model.specs.Respond.{respond};
 ghost use Rattle.tpm_model.specs.Rules.{HasRules};
 ghost use Rattle.tpm_model.specs.World.{World};
@@ -9,6 +11,9 @@ ghost use Rattle.tpm_model.specs.declared.parts.Parts.{Parts};
 ghost use Rattle.tpm_worlds.specs.CommandLists.{state_after};
 ghost use Rattle.tpm_worlds.specs.EventLists.{EachOpensByValue, Safe};
 ghost use Rattle.tpm_worlds.specs.SealedTie.{SealedTie};
+ghost use Rattle.tpm_worlds.specs.SteadySessions.{SteadySessions};
+ghost use Rattle.tpm_worlds.specs.WholeEvents.{OwnTie};
+ghost use Rattle.tpm_unseals.specs.ByPolicy.{EachOpens};
 ghost use Rattle.tpm_commands.specs.Responses.{response_text};
 ghost use Rattle.pcrlock_line.specs.Begun.{by_device};
 ghost use Rattle.pcrlock_line.specs.Causes.{HasCauses};
@@ -19,7 +24,7 @@ ghost use Rattle.pcrlock_line.specs.Worlds.{IsTied};
 ghost use Rattle.pcrlock_line.specs.declared.stop.Stop.TheVariants.{Memory as OutOfMemory};
 ghost use Rattle.pcrlock_exec.specs.Exec.{events_of, exec_strings, exec_text, exec_world, executed_line, tpm_exec_line};
 ghost use Rattle.pcrlock_exec.specs.Worlds.{tpm_exec_world};
-ghost use Rattle.pcrlock_exec.specs.Sending.{HasSizes, IsPartWay};
+ghost use Rattle.pcrlock_exec.specs.Sending.{IsPartWay};
 ghost use Rattle.pcrlock_line.specs.Running.{Keeps, Runs};
 
 use crate::{Input, find_commands};
@@ -29,35 +34,6 @@ use std::alloc::Global;
 use tpm_commands::write_response;
 use tpm_device::Tpm;
 use tpm_model::{Command, Response};
-
-/// A command's list has at most 8 digests, and its secret at most 128 bytes.
-fn has_sizes(command: &Command)
-    ensures { HasSizes command.now }
-{
-    match command {
-        Command::PolicyOr { list, .. } => {
-            let _few = list.as_slice();
-        }
-        Command::Seal { secret, .. } => {
-            let _short = secret.as_slice();
-        }
-        Command::Restart { .. }
-        | Command::PcrExtend { .. }
-        | Command::PcrRead { .. }
-        | Command::StartSession { .. }
-        | Command::PolicyPcr { .. }
-        | Command::PolicyAuthorizeNv { .. }
-        | Command::PolicyGetDigest { .. }
-        | Command::FlushSession { .. }
-        | Command::NvDefine { .. }
-        | Command::NvUndefine { .. }
-        | Command::NvWrite { .. }
-        | Command::NvRead { .. }
-        | Command::NvReadPublic { .. }
-        | Command::Evict { .. }
-        | Command::Unseal { .. } => {}
-    }
-}
 
 /// Puts the line of an answer at the end of a text.
 fn tell(alloc: Global, text: &mut Vec<u8>, response: &Response) -> Result<(), Stop>
@@ -85,7 +61,6 @@ fn send<T: Tpm>(
     ensures stops { (s : Parts) → Runs (T.live tpm.old) (T.stored tpm.old) s
         → IfErr result (λ _. Keeps (T.stored tpm.new) s ⊎ Keeps (T.stored tpm.new) (respond command.now s).1) }
 {
-    has_sizes(command);
     match ask(alloc, tpm, command) {
         Ok(response) => tell(alloc, text, &response),
         Err(stop) => Err(stop),
@@ -180,6 +155,9 @@ pub fn tpm_exec<F: Files, T: Tpm>(
     ensures sealed { (list : Sequence TheCommand) (s : Parts) (w : World) → HasRules s → SealedTie s w → SealedTie (state_after list s) (exec_world list s w) }
     // Each Unseal of an object that is bound to one value of one PCR opens by that value alone.
     ensures unseals { (list : Sequence TheCommand) (s : Parts) (w : World) → HasRules s → SealedTie s w → Safe (exec_world list s w) → EachOpensByValue (events_of list) s w }
+    // And each Unseal of any object of the program opens by what it is bound to: a value, or a table of the program that is open.
+    ensures opens { (list : Sequence TheCommand) (s : Parts) (w : World) → Orderly s → OwnTie s w → SteadySessions s w
+        → Clean (exec_world list s w) → Safe (exec_world list s w) → EachOpens (events_of list) s w }
 {
     match find_commands(alloc, files, commands) {
         Ok(Input::Commands(list)) => exec(alloc, tpm, path, list.as_slice()),

@@ -13,16 +13,16 @@ returns-in-Ok-clause-told g c = λ s runs.
     let told = c.in-Ok.ensures.told s runs.live runs.stored in
     told_line (Runs (g.T.Tpm.live c.ask.new.tpm) (g.T.Tpm.stored c.ask.new.tpm) (respond c.args.command.now s).1) c.tell.result response_text
     c.tell.new.text.items c.args.text.now.items c.in-Ok.response (respond c.args.command.now s).0
-    (runs_on (g.T.Tpm.live c.ask.new.tpm) (g.T.Tpm.stored c.ask.new.tpm) c.args.command.now s c.in-Ok.response (g.T.Tpm.ready c.ask.new.tpm) c.has_sizes.ensures runs.rules told)
+    (runs_on (g.T.Tpm.live c.ask.new.tpm) (g.T.Tpm.stored c.ask.new.tpm) c.args.command.now s c.in-Ok.response (g.T.Tpm.ready c.ask.new.tpm) told)
     told.answer c.tell.ensures.told
 
 pub returns-in-Ok-clause-stops : goal.returns-in-Ok-clause-stops
 returns-in-Ok-clause-stops g c = λ s runs.
     let told = c.in-Ok.ensures.told s runs.live runs.stored in
-    let on = runs_on (g.T.Tpm.live c.ask.new.tpm) (g.T.Tpm.stored c.ask.new.tpm) c.args.command.now s c.in-Ok.response (g.T.Tpm.ready c.ask.new.tpm) c.has_sizes.ensures runs.rules told in
+    let on = runs_on (g.T.Tpm.live c.ask.new.tpm) (g.T.Tpm.stored c.ask.new.tpm) c.args.command.now s c.in-Ok.response (g.T.Tpm.ready c.ask.new.tpm) told in
     kept_next (Keeps (g.T.Tpm.stored c.ask.new.tpm) s) (Keeps (g.T.Tpm.stored c.ask.new.tpm) (respond c.args.command.now s).1) c.tell.result
-    (record { stored = on.stored; rules = on.rules })
+    (record { stored = on.stored })
 
 pub returns-in-Err-clause-stops : goal.returns-in-Err-clause-stops
 returns-in-Err-clause-stops g c = λ s runs.
-    stopped_at (g.T.Tpm.stored c.ask.new.tpm) c.args.command.now s c.has_sizes.ensures runs.rules (c.in-Err.ensures.stops s runs.live runs.stored)
+    stopped_at (g.T.Tpm.stored c.ask.new.tpm) c.args.command.now s (c.in-Err.ensures.stops s runs.live runs.stored)

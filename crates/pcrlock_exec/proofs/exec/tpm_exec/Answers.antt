@@ -8,7 +8,7 @@ use Rattle.pcrlock_exec.specs.Exec.{exec_outcome}
 use Rattle.pcrlock_exec.specs.Input.{commands_at, input_found}
 use Rattle.pcrlock_exec.proofs.Stands.{read_causes, stands_unread, unread_causes}
 use Rattle.pcrlock_exec.proofs.Kept.{exec_hashed, exec_kept}
-use Rattle.pcrlock_exec.proofs.Steps.{opens_by_value, sealed_after_all}
+use Rattle.pcrlock_exec.proofs.Steps.{each_opens, opens_by_value, sealed_after_all}
 use Rattle.pcrlock_exec.proofs.exec.tpm_exec.Goals as goal
 
 pub returns-in-Ok-Commands-clause-causes : goal.returns-in-Ok-Commands-clause-causes
@@ -20,7 +20,7 @@ pub returns-in-Ok-Commands-clause-stops : goal.returns-in-Ok-Commands-clause-sto
 returns-in-Ok-Commands-clause-stops g c = λ words m tells.
     subst (λ (r : Result (List Command) Answer). IfErr c.exec.result (λ _. StandsAmong (g.F.Files.held c.find_commands.new.files) (g.T.Tpm.stored c.exec.new.tpm) (exec_outcome c.args.path.now r m).stops))
     (ap Ok c.as_slice.ensures ∙ ap input_found (sym c.in-Ok-Commands.field-0-is) ∙ c.in-Ok-Commands.ensures.told m.files tells.files)
-    (c.exec.ensures.stops (g.F.Files.held c.find_commands.new.files) words m (record { files = c.find_commands.ensures.same ∙ tells.files; state = tells.state; draws = tells.draws; rules = tells.rules }))
+    (c.exec.ensures.stops (g.F.Files.held c.find_commands.new.files) words m (record { files = c.find_commands.ensures.same ∙ tells.files; state = tells.state; draws = tells.draws }))
 
 pub returns-in-Err-clause-causes : goal.returns-in-Err-clause-causes
 returns-in-Err-clause-causes g c =
@@ -30,7 +30,7 @@ returns-in-Err-clause-causes g c =
 pub returns-in-Err-clause-stops : goal.returns-in-Err-clause-stops
 returns-in-Err-clause-stops g c = λ words m tells.
     stands_unread (g.F.Files.held c.find_commands.new.files) _ c.args.path.now m (commands_at m.files c.args.commands.now)
-    (stands (g.F.Files.held c.find_commands.new.files) _ words m (record { files = c.find_commands.ensures.same ∙ tells.files; state = tells.state; draws = tells.draws; rules = tells.rules }))
+    (stands (g.F.Files.held c.find_commands.new.files) _ words m (record { files = c.find_commands.ensures.same ∙ tells.files; state = tells.state; draws = tells.draws }))
 
 pub returns-in-Ok-Commands-clause-tied : goal.returns-in-Ok-Commands-clause-tied
 returns-in-Ok-Commands-clause-tied g c = λ m w tie. exec_kept c.args.path.now c.args.commands.now m w tie
@@ -67,3 +67,12 @@ returns-in-Err-clause-sealed g c = λ list s w rules tie. sealed_after_all list 
 
 pub returns-in-Err-clause-unseals : goal.returns-in-Err-clause-unseals
 returns-in-Err-clause-unseals g c = λ list s w rules tie safe. opens_by_value list s w rules tie safe
+
+pub returns-in-Ok-Commands-clause-opens : goal.returns-in-Ok-Commands-clause-opens
+returns-in-Ok-Commands-clause-opens g c = λ list s w orderly own sessions clean safe. each_opens list s w orderly own sessions clean safe
+
+pub returns-in-Ok-Refused-clause-opens : goal.returns-in-Ok-Refused-clause-opens
+returns-in-Ok-Refused-clause-opens g c = λ list s w orderly own sessions clean safe. each_opens list s w orderly own sessions clean safe
+
+pub returns-in-Err-clause-opens : goal.returns-in-Err-clause-opens
+returns-in-Err-clause-opens g c = λ list s w orderly own sessions clean safe. each_opens list s w orderly own sessions clean safe
