@@ -22,7 +22,7 @@ pub gives_opened : (held : Option FileMap) (stored now : Option Stored) (words :
     → IfOk result (λ reply. Gives held now words reply (unsealed_line literal handle m))
 gives_opened held stored now words m handle literal (Ok reply) tells opened safe = record {
   ending = opened.ending ∙ same_ending literal handle m.state safe;
-  tells = record { files = tells.files; state = opened.stored; draws = tells.draws; rules = opened.rules };
+  tells = record { files = tells.files; state = opened.stored; draws = tells.draws };
 }
 gives_opened held stored now words m handle literal (Err stop) tells opened safe = tt
 
@@ -39,4 +39,4 @@ pub refused_same : (held kept : Option FileMap) (stored : Option Stored) (words 
     → Tells held stored words m → Gives kept stored words (reply.Refused answer) a
 refused_same held kept stored words m answer a is same tells =
     subst (λ (o : Outcome). Gives kept stored words (reply.Refused answer) o) (sym is)
-    (record { ending = refl; tells = record { files = same ∙ tells.files; state = tells.state; draws = tells.draws; rules = tells.rules } })
+    (record { ending = refl; tells = record { files = same ∙ tells.files; state = tells.state; draws = tells.draws } })

@@ -4,6 +4,5 @@ pub mod Gives
 pub mod Opens
 pub mod SameValues
 pub mod Stops
-pub mod Ties
 pub mod BoundGives
 pub mod Acts

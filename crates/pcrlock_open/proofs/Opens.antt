@@ -70,27 +70,27 @@ literal_is : (literal : Literal) (handle : ℕ) (s : Parts) → length s.session
     → literal_ending literal handle s ≡ value_ending (present_value literal s) literal handle s
 literal_is literal handle s slot number = rw (lt-leb 64 (length s.sessions) slot, lt-leb 0x01000000 s.next_session number) refl
 
-ending_is : (m : Live) (w : World) (state path : List ℕ) (handle : ℕ) (literal : Literal) (key : List ℕ) → IsSafe m w state path → IsEnrolled m w path handle literal key
-    → (unseal_line state path (machine m)).ending ≡ value_ending (present_value literal m.state) literal handle m.state
-ending_is m w state path handle literal key good h =
-    ap (λ c. (content_line state path c (machine m)).ending) h.written
-    ∙ ap (λ r. (token_line state path r (machine m)).ending) (token_again (token.Literal handle literal) h.valid)
+ending_is : (m : Live) (w : World) (state path policy : List ℕ) (handle : ℕ) (literal : Literal) (key : List ℕ) → IsSafe m w state path policy → IsEnrolled m w path handle literal key
+    → (unseal_line state path policy (machine m)).ending ≡ value_ending (present_value literal m.state) literal handle m.state
+ending_is m w state path policy handle literal key good h =
+    ap (λ c. (content_line state path policy c (machine m)).ending) h.written
+    ∙ ap (λ r. (token_line state path policy r (machine m)).ending) (token_again (token.Literal handle literal) h.valid)
     ∙ literal_is literal handle m.state h.slot h.number
 
 -- the line prints the key exactly where the PCR holds the literal's value
-pub opens : (m : Live) (w : World) (state path : List ℕ) (handle : ℕ) (literal : Literal) (key : List ℕ) → IsSafe m w state path → IsEnrolled m w path handle literal key
-    → OpensExactly (unseal_line state path (machine m)).ending key literal m
-opens m w state path handle literal key good h =
+pub opens : (m : Live) (w : World) (state path policy : List ℕ) (handle : ℕ) (literal : Literal) (key : List ℕ) → IsSafe m w state path policy → IsEnrolled m w path handle literal key
+    → OpensExactly (unseal_line state path policy (machine m)).ending key literal m
+opens m w state path policy handle literal key good h =
     let held = good.tied.objects handle _ h.object in
-    subst (λ x. (x ≡ Fine (key_text key)) ↔ (present_value literal m.state ≡ Some literal.value)) (sym (ending_is m w state path handle literal key good h))
+    subst (λ x. (x ≡ Fine (key_text key)) ↔ (present_value literal m.state ≡ Some literal.value)) (sym (ending_is m w state path policy handle literal key good h))
     (by_value (present_value literal m.state) literal handle m.state held.object key held.found held.secret held.policy)
 
 -- so does the command, which gives the line
-pub given : (result : Result Reply Stop) (held : Option FileMap) (stored : Option Stored) (words : Option (List (List ℕ))) (m : Live) (w : World) (state path : List ℕ) (handle : ℕ) (literal : Literal) (key : List ℕ)
-    → IsSafe m w state path → IsEnrolled m w path handle literal key
-    → (NoClash (Contains (unseal_line state path (machine m)).hashed) → IfOk result (λ reply. Gives held stored words reply (unseal_line state path (machine m))))
+pub given : (result : Result Reply Stop) (held : Option FileMap) (stored : Option Stored) (words : Option (List (List ℕ))) (m : Live) (w : World) (state path policy : List ℕ) (handle : ℕ) (literal : Literal) (key : List ℕ)
+    → IsSafe m w state path policy → IsEnrolled m w path handle literal key
+    → (NoClash (Contains (unseal_line state path policy (machine m)).hashed) → IfOk result (λ reply. Gives held stored words reply (unseal_line state path policy (machine m))))
     → IfOk result (λ reply. OpensExactly (ending_of reply) key literal m)
-given (Ok reply) held stored words m w state path handle literal key good h told =
-    let gives = told (safe_right w.hashed (unseal_line state path (machine m)).hashed good.safe) in
-    subst (λ x. OpensExactly x key literal m) (sym gives.ending) (opens m w state path handle literal key good h)
-given (Err stop) held stored words m w state path handle literal key good h told = tt
+given (Ok reply) held stored words m w state path policy handle literal key good h told =
+    let gives = told (safe_right w.hashed (unseal_line state path policy (machine m)).hashed good.safe) in
+    subst (λ x. OpensExactly x key literal m) (sym gives.ending) (opens m w state path policy handle literal key good h)
+given (Err stop) held stored words m w state path policy handle literal key good h told = tt

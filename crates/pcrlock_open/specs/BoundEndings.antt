@@ -1,5 +1,5 @@
 -- The client's result of an unseal of a bound object, as the end of the command.
-use Rattle.std.specs.Prelude.{◌≡◌, ℕ, true, List, drop, codes, Option, None, Some, Result, Ok, Err}
+use Rattle.std.specs.Prelude.{◌≡◌, ℕ, Bool, true, List, drop, codes, Option, None, Some, Result, Ok, Err}
 use Rattle.or_tree.specs.Plan.{plan_of}
 use Rattle.policy_digest.specs.declared.table.Table.{Table}
 use Rattle.policy_digest.specs.Plain.{plain_table}
@@ -17,10 +17,8 @@ use Rattle.policy_session.specs.declared.error.UnsealError.{UnsealError}
 use Rattle.policy_session.specs.declared.error.UnsealError.TheVariants as error
 use Rattle.pcrlock_answer.specs.declared.answer.Answer.{Answer}
 use Rattle.pcrlock_answer.specs.declared.answer.Answer.TheVariants as said
-use Rattle.pcrlock_answer.specs.Texts.{key_text}
 use Rattle.pcrlock_line.specs.declared.reply.Reply.{Reply}
-use Rattle.pcrlock_line.specs.declared.stop.Stop.TheVariants as stop
-use Rattle.pcrlock_line.specs.Outcome.{Ending, Fine, Refused, Stops, ending_of}
+use Rattle.pcrlock_line.specs.Outcome.{Ending, ending_of}
 use Rattle.pcrlock_open.specs.Bound.{plain_tables}
 
 -- by which of the policy's tables a walk is
@@ -32,23 +30,31 @@ pub record IsBy (policy : Policy) (content : List ℕ) (ready : Ready) : Type 0 
   pub index : ready.index ≡ policy.handle
   pub content_is : content ≡ content_of (root_of (plain_table table))
 
--- the end by why nothing was opened. A refusal that shows a literal's value comes for keys that are sealed to
--- one value alone
-abbrev pub bound_error_ending : UnsealError → Ending
-bound_error_ending error.SessionsFull = Refused said.SessionsFull
-bound_error_ending error.HandlesEnd = Refused (said.Limit (codes "handles") 0x01000000)
-bound_error_ending (error.BankAbsent bank) = Refused (said.BankAbsent bank)
-bound_error_ending (error.NotForeseen pcrs now) = Refused (said.NotForeseen pcrs now)
-bound_error_ending (error.NotLiteral now) = Stops stop.TpmFault
-bound_error_ending (error.NoObject object) = Refused (said.NoObject object)
-bound_error_ending (error.WrongBinding session object) = Refused (said.WrongBinding session object)
-bound_error_ending error.Failed = Stops stop.TpmFault
-bound_error_ending error.Memory = Stops stop.Memory
+-- the answer by why nothing was opened. A refusal that shows a literal's value comes for keys that are sealed to
+-- one value alone; a fault and want of memory are no answers
+abbrev pub error_answer : UnsealError → Answer
+error_answer error.SessionsFull = said.SessionsFull
+error_answer error.HandlesEnd = said.Limit (codes "handles") 0x01000000
+error_answer (error.BankAbsent bank) = said.BankAbsent bank
+error_answer (error.NotForeseen pcrs now) = said.NotForeseen pcrs now
+error_answer (error.NotLiteral now) = said.TpmFault
+error_answer (error.NoObject object) = said.NoObject object
+error_answer (error.WrongBinding session object) = said.WrongBinding session object
+error_answer error.Failed = said.TpmFault
+error_answer error.Memory = said.Memory
 
--- the end of the command
-abbrev pub bound_ending : Result (List ℕ) UnsealError → Ending
-bound_ending (Ok secret) = Fine (key_text secret)
-bound_ending (Err why) = bound_error_ending why
+-- the secret, or the answer
+abbrev pub result_answer : Result (List ℕ) UnsealError → Result (List ℕ) Answer
+result_answer (Ok secret) = Ok secret
+result_answer (Err why) = Err (error_answer why)
+
+-- this is the secret or the answer, and the device is ready with this state, which it stores and which has its rules
+pub record IsOpenedSo (opened : Result (List ℕ) Answer) (after : Parts) (result : Result (List ℕ) Answer) (ready : Bool) (live : Option Parts) (kept : Option Stored) : Type 0 where
+  pub is : result ≡ opened
+  pub readiness : ready ≡ true
+  pub now : live ≡ Some after
+  pub stored : kept ≡ Some (Holds after)
+  pub rules : HasRules after
 
 -- the reply is this end, and this state is stored, and has its rules
 pub record IsEnded (ending : Ending) (after : Parts) (reply : Reply) (kept : Option Stored) : Type 0 where

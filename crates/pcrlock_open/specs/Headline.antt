@@ -24,9 +24,9 @@ pub record IsEnrolled (m : Live) (w : World) (path : List ℕ) (handle : ℕ) (l
   pub number : m.state.next_session < 0x01000000
 
 -- the world is tied to the state, and no strings clash among its own and those of the command
-pub record IsSafe (m : Live) (w : World) (state path : List ℕ) : Type 0 where
+pub record IsSafe (m : Live) (w : World) (state path policy : List ℕ) : Type 0 where
   pub tied : Tied m.state w
-  pub safe : NoClash (Contains (w.hashed ++ (unseal_line state path (machine m)).hashed))
+  pub safe : NoClash (Contains (w.hashed ++ (unseal_line state path policy (machine m)).hashed))
 
 -- the end is the key's line exactly where the PCR holds the literal's value
 abbrev pub OpensExactly : Ending → List ℕ → Literal → Live → Type 0

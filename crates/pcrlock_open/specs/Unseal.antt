@@ -6,6 +6,7 @@ use Rattle.hash_bank.specs.HashedString.{HashedString}
 use Rattle.policy_digest.specs.BindingStrings.{literal_strings}
 use Rattle.policy_file.specs.declared.error.FileError.{FileError}
 use Rattle.policy_file.specs.declared.error.FileError.TheVariants as file
+use Rattle.policy_file.specs.declared.policy.Policy.{Policy}
 use Rattle.policy_file.specs.declared.token.Literal.{Literal}
 use Rattle.policy_file.specs.declared.token.Token.{Token}
 use Rattle.policy_file.specs.declared.token.Token.TheVariants as token
@@ -16,6 +17,7 @@ use Rattle.tpm_model.specs.Binding.{literal_policy}
 use Rattle.tpm_model.specs.Pcrs.{pcr_of}
 use Rattle.tpm_model.specs.Sessions.{object_at}
 use Rattle.policy_session.specs.LiteralUnseal.{after_unseal}
+use Rattle.pcrlock_answer.specs.declared.answer.Answer.{Answer}
 use Rattle.pcrlock_answer.specs.declared.answer.Answer.TheVariants as said
 use Rattle.pcrlock_answer.specs.declared.place.Place.TheVariants as place
 use Rattle.pcrlock_answer.specs.Texts.{key_text}
@@ -24,6 +26,8 @@ use Rattle.pcrlock_line.specs.Machine.{Machine, Live, machine}
 use Rattle.pcrlock_line.specs.declared.stop.Stop.TheVariants as stop
 use Rattle.pcrlock_line.specs.Outcome.{Ending, Fine, Refused, Stops, Outcome, unchanged, refused_line}
 use Rattle.pcrlock_line.specs.Begun.{by_device}
+use Rattle.pcrlock_deeds.specs.PolicyAt.{policy_needed}
+use Rattle.pcrlock_open.specs.Bound.{bound_line}
 
 -- the key, where the object that was found is bound to this policy (TPM 2.0 Library Part 3,
 -- TPM2_Unseal)
@@ -73,20 +77,24 @@ unsealed_line literal handle m = record {
 abbrev pub literal_line : List ℕ → Literal → ℕ → Machine → Outcome
 literal_line state literal handle m = by_device m.device state m (unsealed_line literal handle)
 
--- by what reading the token gave. A bound one is refused at its kind, which is at byte 12: no policy is
--- at hand. No reading ends for want of memory
-abbrev pub token_line : List ℕ → List ℕ → Result Token FileError → Machine → Outcome
-token_line state path (Ok (token.Literal handle literal)) m = literal_line state literal handle m
-token_line state path (Ok (token.Bound handle)) m = refused_line (said.Malformed path (place.At 12)) m
-token_line state path (Err (file.Malformed at kind)) m = refused_line (said.Malformed path (place.At at)) m
-token_line state path (Err file.Memory) m = unchanged (Stops stop.Memory) m
+-- by the policy, which an object needs that is bound to its index
+abbrev pub policy_line : List ℕ → ℕ → Result Policy Answer → Machine → Outcome
+policy_line state handle (Ok policy) m = bound_line state policy handle m
+policy_line state handle (Err answer) m = refused_line answer m
+
+-- by what reading the token gave. Only a bound one needs the policy file. No reading ends for want of memory
+abbrev pub token_line : List ℕ → List ℕ → List ℕ → Result Token FileError → Machine → Outcome
+token_line state path policy (Ok (token.Literal handle literal)) m = literal_line state literal handle m
+token_line state path policy (Ok (token.Bound handle)) m = policy_line state handle (policy_needed m.files policy) m
+token_line state path policy (Err (file.Malformed at kind)) m = refused_line (said.Malformed path (place.At at)) m
+token_line state path policy (Err file.Memory) m = unchanged (Stops stop.Memory) m
 
 -- by what stands at the token's path
-abbrev pub content_line : List ℕ → List ℕ → Content → Machine → Outcome
-content_line state path Missing m = refused_line (said.NoToken path) m
-content_line state path (TooLarge size) m = refused_line (said.Limit (codes "token-bytes") size) m
-content_line state path (Bytes bytes) m = token_line state path (token_in bytes) m
+abbrev pub content_line : List ℕ → List ℕ → List ℕ → Content → Machine → Outcome
+content_line state path policy Missing m = refused_line (said.NoToken path) m
+content_line state path policy (TooLarge size) m = refused_line (said.Limit (codes "token-bytes") size) m
+content_line state path policy (Bytes bytes) m = token_line state path policy (token_in bytes) m
 
--- the key of the token at the path, or the first refusal whose cause holds
-abbrev pub unseal_line : List ℕ → List ℕ → Machine → Outcome
-unseal_line state path m = content_line state path (content_of m.files path 256) m
+-- the key of the token at the path, or the first refusal whose cause holds; the policy file stands at its own path
+abbrev pub unseal_line : List ℕ → List ℕ → List ℕ → Machine → Outcome
+unseal_line state path policy m = content_line state path policy (content_of m.files path 256) m

@@ -14,11 +14,11 @@ ghost use Rattle.tpm_model.specs.declared.parts.Parts.{Parts};
 ghost use Rattle.tpm_model.specs.Rules.{HasRules};
 ghost use Rattle.pcrlock_line.specs.Causes.{HasCauses};
 ghost use Rattle.pcrlock_line.specs.Machine.{Machine, Tells};
-ghost use Rattle.pcrlock_line.specs.Outcome.{Gives, Refused, ending_of};
+ghost use Rattle.pcrlock_line.specs.Outcome.{Gives, ending_of};
 ghost use Rattle.pcrlock_answer.specs.declared.answer.Answer.TheVariants as said;
 ghost use Rattle.pcrlock_line.specs.Stopped.{StandsAmong};
-ghost use Rattle.pcrlock_open.specs.Bound.{bound_line, held_after, held_by, held_ending, held_strings};
-ghost use Rattle.pcrlock_open.specs.BoundEndings.{IsChoice, IsEnded, IsOutdated, bound_ending, bound_error_ending};
+ghost use Rattle.pcrlock_open.specs.Bound.{bound_line, held_after, held_by, held_ending, held_opened, held_strings, secret_ending};
+ghost use Rattle.pcrlock_open.specs.BoundEndings.{IsChoice, IsEnded, IsOpenedSo, IsOutdated, error_answer, result_answer};
 ghost use Rattle.pcrlock_open.specs.Endings.{IsStopAfter, IsStopFor};
 
 use crate::answers::limit;
@@ -34,9 +34,9 @@ use std::alloc::Global;
 use tpm_device::Tpm;
 
 /// The answer for a refusal.
-fn bound_answer(alloc: Global, error: &UnsealError) -> Result<Answer, Stop>
+fn refused(alloc: Global, error: &UnsealError) -> Result<Answer, Stop>
     requires { IsNeverLiteral error.now }
-    ensures told { IfOk result (λ answer. (Refused answer ≡ bound_error_ending error.now) × (is_refusal error.now ≡ true)) }
+    ensures told { IfOk result (λ answer. (answer ≡ error_answer error.now) × (is_refusal error.now ≡ true)) }
     ensures cause { IfErr result (λ stop. IsStopFor error.now stop) }
 {
     match error {
@@ -61,19 +61,19 @@ fn bound_answer(alloc: Global, error: &UnsealError) -> Result<Answer, Stop>
     }
 }
 
-/// The reply for the client's result.
-fn bound_reply(alloc: Global, opened: &Result<Small, UnsealError>) -> Result<Reply, Stop>
+/// The secret that the client was given, or the answer for its refusal.
+fn secret_or_answer(
+    alloc: Global,
+    opened: &Result<Small, UnsealError>,
+) -> Result<Result<Small, Answer>, Stop>
     requires { IfErr opened.now IsNeverLiteral }
-    ensures told { IfOk result (λ reply. (ending_of reply ≡ bound_ending opened.now) × (is_answer opened.now ≡ true)) }
+    ensures told { IfOk result (λ secret. (secret ≡ result_answer opened.now) × (is_answer opened.now ≡ true)) }
     ensures cause { IfErr result (λ stop. IsStopAfter opened.now stop) }
 {
     match opened {
-        Ok(secret) => match key_line(alloc, secret) {
-            Ok(line) => Ok(Reply::Fine(line)),
-            Err(_) => Err(Stop::Memory),
-        },
-        Err(error) => match bound_answer(alloc, error) {
-            Ok(answer) => Ok(Reply::Refused(answer)),
+        Ok(secret) => Ok(Ok(*secret)),
+        Err(error) => match refused(alloc, error) {
+            Ok(answer) => Ok(Err(answer)),
             Err(stop) => Err(stop),
         },
     }
@@ -123,68 +123,42 @@ fn choose(alloc: Global, policy: &Policy, content: &Small) -> Result<Result<Prep
     }
 }
 
-/// Opens the object on the ready device, by the table whose root the policy's index holds.
-fn open_by<T: Tpm>(
+/// The secret of the object on the ready device, by the table whose root the policy's index holds.
+fn secret_by<T: Tpm>(
     alloc: Global,
     tpm: &mut T,
     policy: &Policy,
     content: &Small,
     object: u32,
-) -> Result<Reply, Stop>
+) -> Result<Result<Small, Answer>, Stop>
     requires readiness { T.ready tpm.old ≡ true }
     requires policy { IsPolicy policy.now }
     requires object { IsObject object }
     ensures causes { HasCauses (0, 0, T.faults tpm.old, 0) (0, 0, T.faults tpm.new, 0) result }
+    ensures readiness { IfOk result (λ _. T.ready tpm.new ≡ true) }
     ensures told { (s : Parts) (public : Public) → T.live tpm.old ≡ Some s → T.stored tpm.old ≡ Some (Holds s) → HasRules s
         → held_by policy.now s ≡ Ok (public, content.now) → NoClash (Contains (held_strings policy.now s (held_by policy.now s)))
-        → IfOk result (λ reply. IsEnded (held_ending policy.now object s (held_by policy.now s)) (held_after policy.now s (held_by policy.now s)) reply (T.stored tpm.new)) }
-    ensures stops { (s : Parts) (public : Public) → T.live tpm.old ≡ Some s → T.stored tpm.old ≡ Some (Holds s) → HasRules s
-        → held_by policy.now s ≡ Ok (public, content.now) → IfErr result (λ _. Kept s (T.stored tpm.new)) }
+        → IfOk result (λ opened. IsOpenedSo (held_opened policy.now object s) (held_after policy.now s (held_by policy.now s)) opened (T.ready tpm.new) (T.live tpm.new) (T.stored tpm.new)) }
+    ensures kept { (s : Parts) (public : Public) → T.live tpm.old ≡ Some s → T.stored tpm.old ≡ Some (Holds s) → HasRules s
+        → held_by policy.now s ≡ Ok (public, content.now) → Kept s (T.stored tpm.new) }
 {
     match choose(alloc, policy, content) {
         Ok(Ok(prepared)) => {
             let opened = unseal_bound(alloc, tpm, prepared, object);
-            bound_reply(alloc, &opened)
+            secret_or_answer(alloc, &opened)
         }
-        Ok(Err(answer)) => Ok(Reply::Refused(answer)),
+        Ok(Err(answer)) => Ok(Err(answer)),
         Err(stop) => Err(stop),
     }
 }
 
-/// Reads the policy's index on the ready device, and opens the object.
-fn open_held<T: Tpm>(
-    alloc: Global,
-    tpm: &mut T,
-    policy: &Policy,
-    object: u32,
-) -> Result<Reply, Stop>
-    requires readiness { T.ready tpm.old ≡ true }
-    requires policy { IsPolicy policy.now }
-    requires object { IsObject object }
-    ensures causes { HasCauses (0, 0, T.faults tpm.old, 0) (0, 0, T.faults tpm.new, 0) result }
-    ensures told { (s : Parts) → T.live tpm.old ≡ Some s → T.stored tpm.old ≡ Some (Holds s) → HasRules s
-        → NoClash (Contains (held_strings policy.now s (held_by policy.now s)))
-        → IfOk result (λ reply. IsEnded (held_ending policy.now object s (held_by policy.now s)) (held_after policy.now s (held_by policy.now s)) reply (T.stored tpm.new)) }
-    ensures stops { (s : Parts) → T.live tpm.old ≡ Some s → T.stored tpm.old ≡ Some (Holds s) → HasRules s → IfErr result (λ _. Kept s (T.stored tpm.new)) }
-{
-    match read_index(alloc, tpm, policy.handle) {
-        Ok(held) => open_by(alloc, tpm, policy, &held.1, object),
-        Err(IndexError::NoIndex) => Ok(Reply::Refused(Answer::NoIndex(policy.handle))),
-        Err(IndexError::Unwritten) => Ok(Reply::Refused(Answer::UnwrittenIndex(policy.handle))),
-        Err(IndexError::Failed) => Err(Stop::TpmFault),
-        Err(IndexError::Memory) => Err(Stop::Memory),
-    }
-}
-
-/// Makes the device ready, whose state stands at the path, and opens the object that is bound to the policy's index,
-/// by the table whose root the index holds.
+/// The secret of the object that is bound to the policy's index, on the ready device, by the table whose root the index
+/// holds. The object's handle is from 0x81000000 to 0x817fffff.
 ///
-/// The answers for which it doesn't, the first whose cause holds:
+/// The answers for which there is none, the first whose cause holds:
 ///
 /// | Answer | Cause |
 /// |---|---|
-/// | `Limit`, `state-bytes` | the TPM's state file has this many bytes, more than a state may have |
-/// | `Malformed` | the TPM's state file spells no state, or one that breaks a rule |
 /// | `NoIndex` | no index has the policy's handle (TPM 2.0 Library Part 3, TPM2_NV_ReadPublic) |
 /// | `UnwrittenIndex` | it was never written (TPM2_NV_Read) |
 /// | `Outdated` | it holds the root of none of the policy's tables |
@@ -198,6 +172,72 @@ fn open_held<T: Tpm>(
 /// The values are never compared, but the digests of policies are: that this is the same is told where the strings that
 /// are hashed don't clash. The TPM stays as it is, but for the number of a session that was opened and ended. It stops
 /// with `TpmFault` or `Memory`; then the session may stay open.
+pub fn open_secret<T: Tpm>(
+    alloc: Global,
+    tpm: &mut T,
+    policy: &Policy,
+    object: u32,
+) -> Result<Result<Small, Answer>, Stop>
+    requires readiness { T.ready tpm.old ≡ true }
+    requires policy { IsPolicy policy.now }
+    requires object { IsObject object }
+    ensures causes { HasCauses (0, 0, T.faults tpm.old, 0) (0, 0, T.faults tpm.new, 0) result }
+    // A device that answered goes on, also where it tells nothing.
+    ensures readiness { IfOk result (λ _. T.ready tpm.new ≡ true) }
+    ensures told { (s : Parts) → T.live tpm.old ≡ Some s → T.stored tpm.old ≡ Some (Holds s)
+        → NoClash (Contains (held_strings policy.now s (held_by policy.now s)))
+        → IfOk result (λ opened. IsOpenedSo (held_opened policy.now object s) (held_after policy.now s (held_by policy.now s)) opened (T.ready tpm.new) (T.live tpm.new) (T.stored tpm.new)) }
+    // Also after a stop, and where strings clash, what is stored differs at most in sessions.
+    ensures kept { (s : Parts) → T.live tpm.old ≡ Some s → T.stored tpm.old ≡ Some (Holds s) → Kept s (T.stored tpm.new) }
+{
+    match read_index(alloc, tpm, policy.handle) {
+        Ok(held) => secret_by(alloc, tpm, policy, &held.1, object),
+        Err(IndexError::NoIndex) => Ok(Err(Answer::NoIndex(policy.handle))),
+        Err(IndexError::Unwritten) => Ok(Err(Answer::UnwrittenIndex(policy.handle))),
+        Err(IndexError::Failed) => Err(Stop::TpmFault),
+        Err(IndexError::Memory) => Err(Stop::Memory),
+    }
+}
+
+/// The line of the secret, or the answer.
+fn secret_reply(alloc: Global, opened: Result<Small, Answer>) -> Result<Reply, Stop>
+    ensures told { IfOk result (λ reply. ending_of reply ≡ secret_ending opened) }
+    ensures cause { IfErr result (λ stop. stop ≡ Stop.Memory) }
+{
+    match opened {
+        Ok(secret) => match key_line(alloc, &secret) {
+            Ok(line) => Ok(Reply::Fine(line)),
+            Err(_) => Err(Stop::Memory),
+        },
+        Err(answer) => Ok(Reply::Refused(answer)),
+    }
+}
+
+/// Prints the secret of the object that is bound to the policy's index, on the ready device.
+fn open_printed<T: Tpm>(
+    alloc: Global,
+    tpm: &mut T,
+    policy: &Policy,
+    object: u32,
+) -> Result<Reply, Stop>
+    requires readiness { T.ready tpm.old ≡ true }
+    requires policy { IsPolicy policy.now }
+    requires object { IsObject object }
+    ensures causes { HasCauses (0, 0, T.faults tpm.old, 0) (0, 0, T.faults tpm.new, 0) result }
+    ensures told { (s : Parts) → T.live tpm.old ≡ Some s → T.stored tpm.old ≡ Some (Holds s)
+        → NoClash (Contains (held_strings policy.now s (held_by policy.now s)))
+        → IfOk result (λ reply. IsEnded (held_ending policy.now object s) (held_after policy.now s (held_by policy.now s)) reply (T.stored tpm.new)) }
+    ensures stops { (s : Parts) → T.live tpm.old ≡ Some s → T.stored tpm.old ≡ Some (Holds s) → IfErr result (λ _. Kept s (T.stored tpm.new)) }
+{
+    match open_secret(alloc, tpm, policy, object) {
+        Ok(opened) => secret_reply(alloc, opened),
+        Err(stop) => Err(stop),
+    }
+}
+
+/// Makes the device ready, whose state stands at the path, and prints the secret of the object, as `open_secret` gives
+/// it. Before its answers stand those for a state file that holds no state: `Limit`, `state-bytes`, where it has this
+/// many bytes, more than a state may have; and `Malformed`, where it spells no state, or one that breaks a rule.
 pub fn open_bound<T: Tpm>(
     alloc: Global,
     tpm: &mut T,
@@ -215,7 +255,7 @@ pub fn open_bound<T: Tpm>(
         → IfErr result (λ _. StandsAmong held (T.stored tpm.new) (bound_line state.now policy.now object m).stops) }
 {
     match ready(alloc, tpm, state) {
-        Ok(None) => open_held(alloc, tpm, policy, object),
+        Ok(None) => open_printed(alloc, tpm, policy, object),
         Ok(Some(answer)) => Ok(Reply::Refused(answer)),
         Err(stop) => Err(stop),
     }

@@ -18,9 +18,6 @@ use std::alloc::Global;
 /// The most bytes that a token file may have.
 const TOKEN_LIMIT: u64 = 256;
 
-/// The place of a token's kind.
-const KIND: u32 = 12;
-
 /// What the token's file gave.
 #[derive(Debug, Drop)]
 pub(crate) enum TokenRead {
@@ -33,6 +30,8 @@ pub(crate) enum TokenRead {
         /// The value that opens it.
         literal: Literal,
     },
+    /// A token of the object with this handle, 0x81000000 to 0x817fffff, that is bound to a policy's index.
+    Bound(u32),
 }
 
 /// The answer for a token file that is malformed from the place on.
@@ -60,15 +59,15 @@ fn missing(alloc: Global, path: &Name) -> Result<TokenRead, Stop>
     }
 }
 
-/// The token that the bytes spell. One of a bound object is refused at its kind: no policy is at hand.
+/// The token that the bytes spell.
 fn token_of(alloc: Global, path: &Name, bytes: &[u8]) -> Result<TokenRead, Stop>
-    ensures told { IfOk result (λ read. (state : Sequence ℕ) (m : Machine) → token_line state path.now (token_in bytes.now) m ≡ read_line state read m) }
+    ensures told { IfOk result (λ read. (state policy : Sequence ℕ) (m : Machine) → token_line state path.now policy (token_in bytes.now) m ≡ read_line state policy read m) }
     ensures valid { IfOk result IsRead }
     ensures cause { IfErr result (λ stop. stop ≡ Stop.Memory) }
 {
     match read_token(bytes) {
         Ok(Token::Literal { object, literal }) => Ok(TokenRead::Literal { object, literal }),
-        Ok(Token::Bound { .. }) => malformed(alloc, path, KIND),
+        Ok(Token::Bound { object }) => Ok(TokenRead::Bound(object)),
         Err(FileError::Malformed { place, .. }) => malformed(alloc, path, place),
         Err(FileError::Memory) => Err(Stop::Memory),
     }
@@ -76,7 +75,7 @@ fn token_of(alloc: Global, path: &Name, bytes: &[u8]) -> Result<TokenRead, Stop>
 
 /// The token of what stands at the path.
 fn token_found(alloc: Global, path: &Name, found: &Found) -> Result<TokenRead, Stop>
-    ensures told { IfOk result (λ read. (state : Sequence ℕ) (m : Machine) → content_line state path.now (content_found found.now) m ≡ read_line state read m) }
+    ensures told { IfOk result (λ read. (state policy : Sequence ℕ) (m : Machine) → content_line state path.now policy (content_found found.now) m ≡ read_line state policy read m) }
     ensures valid { IfOk result IsRead }
     ensures cause { IfErr result (λ stop. stop ≡ Stop.Memory) }
 {
@@ -97,7 +96,7 @@ pub(crate) fn token_at<F: Files>(
     path: &Name,
 ) -> Result<TokenRead, Stop>
     ensures causes { HasCauses (F.faults files.old, 0, 0, 0) (F.faults files.new, 0, 0, 0) result }
-    ensures told { (state : Sequence ℕ) (m : Machine) → F.held files.old ≡ Some m.files → IfOk result (λ read. unseal_line state path.now m ≡ read_line state read m) }
+    ensures told { (state policy : Sequence ℕ) (m : Machine) → F.held files.old ≡ Some m.files → IfOk result (λ read. unseal_line state path.now policy m ≡ read_line state policy read m) }
     ensures valid { IfOk result IsRead }
     ensures same { F.held files.new ≡ F.held files.old }
 {

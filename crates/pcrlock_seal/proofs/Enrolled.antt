@@ -25,6 +25,8 @@ use Rattle.tpm_model.specs.World.{World}
 use Rattle.tpm_model.specs.Tied.{Tied}
 use Rattle.tpm_device.specs.Stored.{Holds}
 use Rattle.pcrlock_line.specs.Machine.{Live}
+use Rattle.pcrlock_seal.specs.declared.condition.Condition.{Condition}
+use Rattle.pcrlock_seal.specs.declared.condition.Condition.TheVariants as conditions
 use Rattle.pcrlock_seal.specs.Enroll.{sealed_handle, token_written, with_key, with_value, literal_now, literal_hash, enrolled_line}
 use Rattle.pcrlock_seal.specs.EnrollWorld.{strings_of, sealed_or, key_world, with_key_world, value_world, enroll_world, key_state, value_state, enroll_state}
 use Rattle.pcrlock_seal.proofs.Objects.{none_found, tied_object, tied_sealed}
@@ -83,13 +85,13 @@ pub enroll_tied : (pcr : ℕ) (bank : Bank) (key : Option (List ℕ)) (m : Live)
 enroll_tied pcr bank key m w rules t = value_tied pcr bank key (pcr_of m.state.banks m.state.pcrs bank pcr) m w rules t
 
 -- that state is stored afterwards
-written_leaves : (path : List ℕ) (literal : Literal) (o : Option ℕ) (response : Response) (s : Parts) (m : Live) → (token_written path literal o response s m).after.device ≡ Holds s
-written_leaves path literal (Some handle) response s m = refl
-written_leaves path literal None response s m = refl
+written_leaves : (path : List ℕ) (condition : Condition) (o : Option ℕ) (response : Response) (s : Parts) (m : Live) → (token_written path condition o response s m).after.device ≡ Holds s
+written_leaves path condition (Some handle) response s m = refl
+written_leaves path condition None response s m = refl
 
-key_leaves : (path : List ℕ) (literal : Literal) (key : Option (List ℕ)) (draws : List (List ℕ)) (m : Live) → (with_key path literal key draws m).after.device ≡ Holds (key_state literal key draws m.state)
-key_leaves path literal (Some key) draws m = written_leaves path literal _ _ _ m
-key_leaves path literal None (word ∷ rest) m = written_leaves path literal _ _ _ (record m { draws = rest })
+key_leaves : (path : List ℕ) (literal : Literal) (key : Option (List ℕ)) (draws : List (List ℕ)) (m : Live) → (with_key path (conditions.Value literal) key draws m).after.device ≡ Holds (key_state literal key draws m.state)
+key_leaves path literal (Some key) draws m = written_leaves path (conditions.Value literal) _ _ _ m
+key_leaves path literal None (word ∷ rest) m = written_leaves path (conditions.Value literal) _ _ _ (record m { draws = rest })
 key_leaves path literal None [] m = refl
 
 value_leaves : (path : List ℕ) (pcr : ℕ) (bank : Bank) (key value : Option (List ℕ)) (m : Live) → (with_value path pcr bank key value m).after.device ≡ Holds (value_state pcr bank key value m)

@@ -4,3 +4,4 @@ pub mod Objects
 pub mod Enrolled
 pub mod Stops
 pub mod Acts
+pub mod BoundWorld

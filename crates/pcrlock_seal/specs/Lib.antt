@@ -1,4 +1,6 @@
 pub mod Acts
-pub mod Values
+pub mod BoundWorld
+pub mod Condition
 pub mod Enroll
 pub mod EnrollWorld
+pub mod Values

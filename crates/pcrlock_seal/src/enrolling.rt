@@ -1,17 +1,14 @@
-//! `enroll`: a key is sealed to the present value of a PCR.
+//! `enroll`: a key is sealed to the present value of a PCR, or to the index of the policy in force.
 ghost use Rattle.std.specs.Prelude.{◌≡◌, ◌≤◌, ◌∷◌, [], ℕ, List as Sequence, true, Some, length, IfOk, IfErr, IfSome};
 ghost use Rattle.hash_bank.specs.Hash.{size_in};
 ghost use Rattle.tpm_model.specs.declared.parts.Parts.{Parts};
-ghost use Rattle.tpm_model.specs.Rules.{HasRules};
-ghost use Rattle.tpm_model.specs.Binding.{literal_policy};
 ghost use Rattle.policy_digest.specs.Policies.{IsPolicyHash};
-ghost use Rattle.policy_file.specs.TokenText.{IsLiteral, IsObject};
+ghost use Rattle.policy_file.specs.TokenText.{IsObject};
 ghost use Rattle.tpm_device.specs.Stored.{Stored, Holds};
 ghost use Rattle.std.specs.Prelude.{Option, None, ◌^◌, ◌<◌};
 ghost use Rattle.std.specs.FinMap.{insert};
 ghost use Rattle.pl_base.specs.FileMap.{FileMap};
 ghost use Rattle.policy_file.specs.TokenText.{token_text};
-ghost use Rattle.policy_file.specs.declared.token.Token.TheVariants as token_value;
 ghost use Rattle.pcrlock_answer.specs.Texts.{enrolled_text};
 ghost use Rattle.tpm_model.specs.World.{World};
 ghost use Rattle.tpm_model.specs.Tied.{Tied};
@@ -22,15 +19,19 @@ ghost use Rattle.std.specs.Prelude.{◌⊎◌};
 ghost use Rattle.pcrlock_line.specs.Machine.{Machine, Live, Tells, machine};
 ghost use Rattle.pcrlock_line.specs.Outcome.{Gives, ending_of};
 ghost use Rattle.pcrlock_line.specs.Causes.{HasCauses};
-ghost use Rattle.pcrlock_seal.specs.Enroll.{literal_hash as hash_of_literal, sealed_handle as handle_in, seal_refusal as refusal_in, token_written, key_sealed, with_key, enrolled_line, enroll_line};
+ghost use Rattle.pcrlock_seal.specs.Enroll.{literal_hash as hash_of_literal, sealed_handle as handle_in, seal_refusal as refusal_in, token_written, key_sealed, with_key, bound_line, enrolled_line, enroll_bound_line, enroll_line};
+ghost use Rattle.pcrlock_line.specs.Begun.{by_device};
+ghost use Rattle.pcrlock_seal.specs.BoundWorld.{SealsToFiled};
+ghost use Rattle.pcrlock_seal.specs.Condition.{IsCondition, condition_token};
 
+use crate::condition::Condition;
 use crate::values::present_value;
-use hash_bank::{Bank, Digest};
+use hash_bank::Bank;
 use pcrlock_answer::{Answer, enrolled_line};
+use pcrlock_deeds::needed_policy;
 use pcrlock_line::{Reply, Stop, ask, draw, ready, replace_file};
 use pl_base::{Entropy, Files, Memory, Name, Small};
-use policy_digest::{policy_pcr_in, values_digest_in};
-use policy_file::{Literal, Token, write_token};
+use policy_file::{Literal, Policy, write_token};
 use std::alloc::Global;
 use tpm_device::Tpm;
 use tpm_model::{Command, Refusal, Response};
@@ -44,32 +45,6 @@ fn literal_hash(bank: Bank) -> Bank
         Bank::Sha1 | Bank::Sha256 => Bank::Sha256,
         Bank::Sha384 | Bank::Sha512 => Bank::Sha384,
     }
-}
-
-/// The mask of one PCR.
-#[tactic(auto, using(std::proofs::lemmas::Nat::pow_below))]
-fn mask_of(pcr: u8) -> u32
-    requires { pcr ≤ 23 }
-    ensures value { result ≡ 2 ^ pcr }
-    ensures bound { result < 2 ^ 24 }
-{
-    1 << pcr
-}
-
-/// The policy of a literal.
-#[tactic(auto, using(policy_session::proofs::OneValue::one_value))]
-fn policy_of_literal(literal: &Literal) -> Digest
-    requires { IsLiteral literal.now }
-    ensures { result ≡ literal_policy literal.now.hash literal.now.bank literal.now.pcr literal.now.value }
-{
-    let values = values_digest_in(literal.hash, &[literal.value]);
-    policy_pcr_in(
-        literal.hash,
-        &Digest::zeros(literal.hash),
-        literal.bank,
-        mask_of(literal.pcr),
-        &values,
-    )
 }
 
 /// The handle of a sealed object.
@@ -102,26 +77,22 @@ fn seal_refusal(alloc: Global, response: &Response) -> Result<Answer, Memory>
 }
 
 /// Writes the token of an object, and gives the line that names its handle.
-fn write_literal<F: Files>(
+fn write_object<F: Files>(
     alloc: Global,
     files: &mut F,
     path: &Name,
-    literal: &Literal,
+    condition: &Condition,
     object: u32,
 ) -> Result<Vec<u8>, Stop>
-    requires literal { IsLiteral literal.now }
+    requires condition { IsCondition condition.now }
     requires object { IsObject object }
     ensures causes { HasCauses (F.faults files.old, 0, 0, 0) (F.faults files.new, 0, 0, 0) result }
     ensures told { (held : FileMap) → F.held files.old ≡ Some held
-        → IfOk result (λ line. (line.items ≡ enrolled_text object) × (F.held files.new ≡ Some (insert held path.now (token_text (token_value.Literal object literal.now))))) }
+        → IfOk result (λ line. (line.items ≡ enrolled_text object) × (F.held files.new ≡ Some (insert held path.now (token_text (condition_token condition.now object))))) }
     ensures stops { (held : FileMap) → F.held files.old ≡ Some held
-        → IfErr result (λ _. (F.held files.new ≡ Some held) ⊎ (F.held files.new ≡ Some (insert held path.now (token_text (token_value.Literal object literal.now))))) }
+        → IfErr result (λ _. (F.held files.new ≡ Some held) ⊎ (F.held files.new ≡ Some (insert held path.now (token_text (condition_token condition.now object))))) }
 {
-    let token = Token::Literal {
-        object,
-        literal: *literal,
-    };
-    let Ok(bytes) = write_token(alloc, &token) else {
+    let Ok(bytes) = write_token(alloc, &condition.token(object)) else {
         return Err(Stop::Memory);
     };
     let Ok(line) = enrolled_line(alloc, object) else {
@@ -133,31 +104,29 @@ fn write_literal<F: Files>(
     }
 }
 
-/// Seals the key to the literal's policy and writes the token.
+/// Seals the key to the policy of the condition and writes the token.
 fn seal_key<F: Files, T: Tpm>(
     alloc: Global,
     files: &mut F,
     tpm: &mut T,
     path: &Name,
-    literal: &Literal,
+    condition: &Condition,
     key: &Small,
 ) -> Result<Reply, Stop>
     requires readiness { T.ready tpm.old ≡ true }
-    requires literal { IsLiteral literal.now }
+    requires condition { IsCondition condition.now }
     ensures causes { HasCauses (F.faults files.old, 0, T.faults tpm.old, 0) (F.faults files.new, 0, T.faults tpm.new, 0) result }
     ensures told { (draws : Option (Sequence (Sequence ℕ))) (m : Live) → Tells (F.held files.old) (T.stored tpm.old) draws (machine m) → T.live tpm.old ≡ Some m.state
-        → IfOk result (λ reply. Gives (F.held files.new) (T.stored tpm.new) draws reply (key_sealed path.now literal.now key.now m)) }
+        → IfOk result (λ reply. Gives (F.held files.new) (T.stored tpm.new) draws reply (key_sealed path.now condition.now key.now m)) }
     ensures stops { (draws : Option (Sequence (Sequence ℕ))) (m : Live) → Tells (F.held files.old) (T.stored tpm.old) draws (machine m) → T.live tpm.old ≡ Some m.state
-        → IfErr result (λ _. StandsAmong (F.held files.new) (T.stored tpm.new) (key_sealed path.now literal.now key.now m).stops) }
+        → IfErr result (λ _. StandsAmong (F.held files.new) (T.stored tpm.new) (key_sealed path.now condition.now key.now m).stops) }
 {
-    let size = key.as_slice().len();
-    prove!(size <= 128);
     let command = Command::Seal {
-        policy: policy_of_literal(literal),
+        policy: condition.policy(),
         secret: *key,
     };
     match ask(alloc, tpm, &command) {
-        Ok(response) => answered(alloc, files, path, literal, &response),
+        Ok(response) => answered(alloc, files, path, condition, &response),
         Err(stop) => Err(stop),
     }
 }
@@ -167,18 +136,18 @@ fn answered<F: Files>(
     alloc: Global,
     files: &mut F,
     path: &Name,
-    literal: &Literal,
+    condition: &Condition,
     response: &Response,
 ) -> Result<Reply, Stop>
-    requires { IsLiteral literal.now }
+    requires { IsCondition condition.now }
     ensures causes { HasCauses (F.faults files.old, 0, 0, 0) (F.faults files.new, 0, 0, 0) result }
-    ensures told { (stored : Option Stored) (draws : Option (Sequence (Sequence ℕ))) (s : Parts) (m : Live) → F.held files.old ≡ Some m.files → stored ≡ Some (Holds s) → draws ≡ Some m.draws → HasRules s
-        → IfOk result (λ reply. Gives (F.held files.new) stored draws reply (token_written path.now literal.now (handle_in response.now) response.now s m)) }
-    ensures stops { (stored : Option Stored) (s : Parts) (m : Live) → F.held files.old ≡ Some m.files → stored ≡ Some (Holds s) → HasRules s
-        → IfErr result (λ _. StandsAmong (F.held files.new) stored (token_written path.now literal.now (handle_in response.now) response.now s m).stops) }
+    ensures told { (stored : Option Stored) (draws : Option (Sequence (Sequence ℕ))) (s : Parts) (m : Live) → F.held files.old ≡ Some m.files → stored ≡ Some (Holds s) → draws ≡ Some m.draws
+        → IfOk result (λ reply. Gives (F.held files.new) stored draws reply (token_written path.now condition.now (handle_in response.now) response.now s m)) }
+    ensures stops { (stored : Option Stored) (s : Parts) (m : Live) → F.held files.old ≡ Some m.files → stored ≡ Some (Holds s)
+        → IfErr result (λ _. StandsAmong (F.held files.new) stored (token_written path.now condition.now (handle_in response.now) response.now s m).stops) }
 {
     match sealed_handle(response) {
-        Some(handle) => match write_literal(alloc, files, path, literal, handle) {
+        Some(handle) => match write_object(alloc, files, path, condition, handle) {
             Ok(line) => Ok(Reply::Fine(line)),
             Err(stop) => Err(stop),
         },
@@ -250,14 +219,22 @@ fn with_device<F: Files, T: Tpm, E: Entropy>(
                 pcr,
                 value,
             };
-            seal_under(alloc, files, tpm, entropy, path, key, &literal)
+            seal_under(
+                alloc,
+                files,
+                tpm,
+                entropy,
+                path,
+                key,
+                &Condition::Value(literal),
+            )
         }
         Ok(None) => Ok(Reply::Refused(Answer::BankAbsent(bank))),
         Err(stop) => Err(stop),
     }
 }
 
-/// Seals the key, or a drawn one, under the literal.
+/// Seals the key, or a drawn one, under the condition.
 fn seal_under<F: Files, T: Tpm, E: Entropy>(
     alloc: Global,
     files: &mut F,
@@ -265,19 +242,19 @@ fn seal_under<F: Files, T: Tpm, E: Entropy>(
     entropy: &mut E,
     path: &Name,
     key: Option<Small>,
-    literal: &Literal,
+    condition: &Condition,
 ) -> Result<Reply, Stop>
     requires readiness { T.ready tpm.old ≡ true }
-    requires literal { IsLiteral literal.now }
+    requires condition { IsCondition condition.now }
     ensures causes { HasCauses (F.faults files.old, E.faults entropy.old, T.faults tpm.old, 0) (F.faults files.new, E.faults entropy.new, T.faults tpm.new, 0) result }
     ensures told { (m : Live) → Tells (F.held files.old) (T.stored tpm.old) (E.draws entropy.old) (machine m) → T.live tpm.old ≡ Some m.state
-        → IfOk result (λ reply. Gives (F.held files.new) (T.stored tpm.new) (E.draws entropy.new) reply (with_key path.now literal.now key m.draws m)) }
+        → IfOk result (λ reply. Gives (F.held files.new) (T.stored tpm.new) (E.draws entropy.new) reply (with_key path.now condition.now key m.draws m)) }
     ensures stops { (m : Live) → Tells (F.held files.old) (T.stored tpm.old) (E.draws entropy.old) (machine m) → T.live tpm.old ≡ Some m.state
-        → IfErr result (λ _. StandsAmong (F.held files.new) (T.stored tpm.new) (with_key path.now literal.now key m.draws m).stops) }
+        → IfErr result (λ _. StandsAmong (F.held files.new) (T.stored tpm.new) (with_key path.now condition.now key m.draws m).stops) }
 {
     match key {
-        Some(key) => seal_key(alloc, files, tpm, path, literal, &key),
-        None => seal_drawn(alloc, files, tpm, entropy, path, literal),
+        Some(key) => seal_key(alloc, files, tpm, path, condition, &key),
+        None => seal_drawn(alloc, files, tpm, entropy, path, condition),
     }
 }
 
@@ -288,21 +265,93 @@ fn seal_drawn<F: Files, T: Tpm, E: Entropy>(
     tpm: &mut T,
     entropy: &mut E,
     path: &Name,
-    literal: &Literal,
+    condition: &Condition,
 ) -> Result<Reply, Stop>
     requires readiness { T.ready tpm.old ≡ true }
-    requires literal { IsLiteral literal.now }
+    requires condition { IsCondition condition.now }
     ensures causes { HasCauses (F.faults files.old, E.faults entropy.old, T.faults tpm.old, 0) (F.faults files.new, E.faults entropy.new, T.faults tpm.new, 0) result }
     ensures told { (m : Live) → Tells (F.held files.old) (T.stored tpm.old) (E.draws entropy.old) (machine m) → T.live tpm.old ≡ Some m.state
-        → IfOk result (λ reply. Gives (F.held files.new) (T.stored tpm.new) (E.draws entropy.new) reply (with_key path.now literal.now None m.draws m)) }
+        → IfOk result (λ reply. Gives (F.held files.new) (T.stored tpm.new) (E.draws entropy.new) reply (with_key path.now condition.now None m.draws m)) }
     ensures stops { (m : Live) → Tells (F.held files.old) (T.stored tpm.old) (E.draws entropy.old) (machine m) → T.live tpm.old ≡ Some m.state
-        → IfErr result (λ _. StandsAmong (F.held files.new) (T.stored tpm.new) (with_key path.now literal.now None m.draws m).stops) }
+        → IfErr result (λ _. StandsAmong (F.held files.new) (T.stored tpm.new) (with_key path.now condition.now None m.draws m).stops) }
 {
     match draw(entropy) {
         Ok(word) => match Small::from_slice(&word) {
-            Some(key) => seal_key(alloc, files, tpm, path, literal, &key),
+            Some(key) => seal_key(alloc, files, tpm, path, condition, &key),
             None => Err(Stop::Memory),
         },
+        Err(stop) => Err(stop),
+    }
+}
+
+/// Enrolls with the policy that was read, over a device that is made ready.
+fn enroll_under<F: Files, T: Tpm, E: Entropy>(
+    alloc: Global,
+    files: &mut F,
+    tpm: &mut T,
+    entropy: &mut E,
+    state: &Name,
+    path: &Name,
+    key: Option<Small>,
+    policy: &Policy,
+) -> Result<Reply, Stop>
+    ensures causes { HasCauses (F.faults files.old, E.faults entropy.old, T.faults tpm.old, 0) (F.faults files.new, E.faults entropy.new, T.faults tpm.new, 0) result }
+    ensures told { (m : Machine) → Tells (F.held files.old) (T.stored tpm.old) (E.draws entropy.old) m
+        → IfOk result (λ reply. Gives (F.held files.new) (T.stored tpm.new) (E.draws entropy.new) reply (by_device m.device state.now m (bound_line path.now policy.now key))) }
+    ensures stops { (m : Machine) → Tells (F.held files.old) (T.stored tpm.old) (E.draws entropy.old) m
+        → IfErr result (λ _. StandsAmong (F.held files.new) (T.stored tpm.new) (by_device m.device state.now m (bound_line path.now policy.now key)).stops) }
+{
+    match ready(alloc, tpm, state) {
+        Ok(None) => {
+            let condition = Condition::of_policy(policy);
+            seal_under(alloc, files, tpm, entropy, path, key, &condition)
+        }
+        Ok(Some(answer)) => Ok(Reply::Refused(answer)),
+        Err(stop) => Err(stop),
+    }
+}
+
+/// Enrolls the key, or a drawn one, under the policy whose file stands at the path `policy`, and writes its token to
+/// `path`. The object opens by the table whose root the policy's index holds, whichever that is then (TPM 2.0 Library
+/// Part 3, TPM2_PolicyAuthorizeNV); no look is taken at the index, which has to be written only when the key is opened.
+/// The TPM's state stands at the path `state`.
+///
+/// The answers for which it doesn't, the first whose cause holds:
+///
+/// | Answer | Cause |
+/// |---|---|
+/// | `NoPolicy` | no policy file stands at its path |
+/// | `Limit`, `policy-bytes` | the policy file has this many bytes, more than 4,194,304 |
+/// | `Malformed` | the policy file spells no policy |
+/// | `Limit`, `state-bytes` | the TPM's state file has this many bytes, more than a state may have |
+/// | `Malformed` | the TPM's state file spells no state, or one that breaks a rule |
+/// | `Limit`, `objects` | the TPM holds 64 objects already: this is the 65th (TPM2_Create) |
+/// | `Limit`, `handles` | all numbers of objects, 0x00800000, were used |
+///
+/// It stops with `ReadFault`, `TpmFault`, `EntropyFault`, `WriteFault` or `Memory`. An object whose token wasn't written
+/// stays.
+#[tactic(auto, using(crate::proofs::BoundWorld::enroll_bound_seals))]
+pub fn enroll_bound<F: Files, T: Tpm, E: Entropy>(
+    alloc: Global,
+    files: &mut F,
+    tpm: &mut T,
+    entropy: &mut E,
+    state: &Name,
+    path: &Name,
+    policy: &Name,
+    key: Option<Small>,
+) -> Result<Reply, Stop>
+    ensures causes { HasCauses (F.faults files.old, E.faults entropy.old, T.faults tpm.old, 0) (F.faults files.new, E.faults entropy.new, T.faults tpm.new, 0) result }
+    ensures told { (m : Machine) → Tells (F.held files.old) (T.stored tpm.old) (E.draws entropy.old) m
+        → IfOk result (λ reply. Gives (F.held files.new) (T.stored tpm.new) (E.draws entropy.new) reply (enroll_bound_line state.now path.now policy.now key m)) }
+    ensures stops { (m : Machine) → Tells (F.held files.old) (T.stored tpm.old) (E.draws entropy.old) m
+        → IfErr result (λ _. StandsAmong (F.held files.new) (T.stored tpm.new) (enroll_bound_line state.now path.now policy.now key m).stops) }
+    // Where the policy file states what the world has as filed, the key is bound to the index and the pin that are filed.
+    ensures sealed { (m : Live) (w : World) → SealsToFiled state.now path.now policy.now key m w }
+{
+    match needed_policy(alloc, files, policy) {
+        Ok(Ok(found)) => enroll_under(alloc, files, tpm, entropy, state, path, key, &found),
+        Ok(Err(answer)) => Ok(Reply::Refused(answer)),
         Err(stop) => Err(stop),
     }
 }

@@ -1,7 +1,8 @@
 //! The command that seals keys: `enroll`.
 #![tactic(auto)]
 
+mod condition;
 mod enrolling;
 mod values;
 
-pub use crate::enrolling::enroll;
+pub use crate::enrolling::{enroll, enroll_bound};

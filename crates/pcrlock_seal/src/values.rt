@@ -3,7 +3,6 @@ ghost use Rattle.std.specs.Prelude.{◌≡◌, ◌≤◌, ℕ, true, Some, lengt
 ghost use Rattle.hash_bank.specs.Hash.{size_in};
 ghost use Rattle.tpm_model.specs.declared.parts.Parts.{Parts};
 ghost use Rattle.tpm_model.specs.Pcrs.{pcr_of};
-ghost use Rattle.tpm_model.specs.Rules.{HasRules};
 ghost use Rattle.tpm_device.specs.Stored.{Holds};
 ghost use Rattle.pcrlock_line.specs.Causes.{HasCauses};
 ghost use Rattle.pcrlock_seal.specs.Values.{value_in as value_of_answer, IsRead};
@@ -36,9 +35,9 @@ pub(crate) fn present_value<T: Tpm>(
     requires number { pcr ≤ 23 }
     ensures causes { HasCauses (0, 0, T.faults tpm.old, 0) (0, 0, T.faults tpm.new, 0) result }
     ensures size { IfOk result (λ found. IfSome found (λ value. length value ≡ size_in bank)) }
-    ensures told { (s : Parts) → T.live tpm.old ≡ Some s → T.stored tpm.old ≡ Some (Holds s) → HasRules s
+    ensures told { (s : Parts) → T.live tpm.old ≡ Some s → T.stored tpm.old ≡ Some (Holds s)
         → IfOk result (λ found. IsRead s (pcr_of s.banks s.pcrs bank pcr) found (T.ready tpm.new) (T.live tpm.new) (T.stored tpm.new)) }
-    ensures stops { (s : Parts) → T.live tpm.old ≡ Some s → T.stored tpm.old ≡ Some (Holds s) → HasRules s
+    ensures stops { (s : Parts) → T.live tpm.old ≡ Some s → T.stored tpm.old ≡ Some (Holds s)
         → IfErr result (λ _. T.stored tpm.new ≡ Some (Holds s)) }
 {
     let command = Command::PcrRead { bank, pcr };

@@ -6,26 +6,27 @@ use Rattle.pcrlock_line.specs.Outcome.{Outcome, Gives}
 use Rattle.pcrlock_line.specs.Stopped.{StandsAmong}
 use Rattle.pcrlock_line.proofs.Devices.{begun_by, tells_begun, kept_tells, gives_refused, stops_first, stands}
 use Rattle.pcrlock_open.specs.Bound.{bound_on}
-use Rattle.pcrlock_open.proofs.BoundGives.{bound_first, bound_stopped, gives_ended}
+use Rattle.pcrlock_open.proofs.BoundGives.{bound_stopped, gives_ended}
+use Rattle.pcrlock_open.proofs.Stops.{bound_first}
 use Rattle.pcrlock_open.proofs.bound.open_bound.Goals as goal
 
 pub returns-in-Ok-None-clause-told : goal.returns-in-Ok-None-clause-told
 returns-in-Ok-None-clause-told g c = λ held words m tells.
     begun_by m.device c.args.state.now m (bound_on c.args.policy.now c.args.object)
-    (λ (o : Outcome). NoClash (Contains o.hashed) → IfOk c.open_held.result (λ (r : Reply). Gives held (g.T.Tpm.stored c.open_held.new.tpm) words r o))
+    (λ (o : Outcome). NoClash (Contains o.hashed) → IfOk c.open_printed.result (λ (r : Reply). Gives held (g.T.Tpm.stored c.open_printed.new.tpm) words r o))
     (sym c.in-Ok-None.field-0-is ∙ c.in-Ok-None.ensures.told m.device tells.state)
     (λ s e safe. let begun = tells_begun held _ _ words m s c.ready.ensures.same e tells in
-    gives_ended held _ _ words (record { files = m.files; state = s; draws = m.draws }) c.args.policy.now c.args.object c.open_held.result begun
-    (c.open_held.ensures.told s (c.in-Ok-None.ensures.live s (tells.state ∙ ap Some e)).live_is begun.state begun.rules safe))
+    gives_ended held _ _ words (record { files = m.files; state = s; draws = m.draws }) c.args.policy.now c.args.object c.open_printed.result begun
+    (c.open_printed.ensures.told s (c.in-Ok-None.ensures.live s (tells.state ∙ ap Some e)).live_is begun.state safe))
 
 pub returns-in-Ok-None-clause-stops : goal.returns-in-Ok-None-clause-stops
 returns-in-Ok-None-clause-stops g c = λ held words m tells.
     begun_by m.device c.args.state.now m (bound_on c.args.policy.now c.args.object)
-    (λ (o : Outcome). IfErr c.open_held.result (λ _. StandsAmong held (g.T.Tpm.stored c.open_held.new.tpm) o.stops))
+    (λ (o : Outcome). IfErr c.open_printed.result (λ _. StandsAmong held (g.T.Tpm.stored c.open_printed.new.tpm) o.stops))
     (sym c.in-Ok-None.field-0-is ∙ c.in-Ok-None.ensures.told m.device tells.state)
     (λ s e. let begun = tells_begun held _ _ words m s c.ready.ensures.same e tells in
-    bound_stopped held _ _ words (record { files = m.files; state = s; draws = m.draws }) c.args.policy.now c.args.object c.open_held.result begun
-    (c.open_held.ensures.stops s (c.in-Ok-None.ensures.live s (tells.state ∙ ap Some e)).live_is begun.state begun.rules))
+    bound_stopped held _ _ words (record { files = m.files; state = s; draws = m.draws }) c.args.policy.now c.args.object c.open_printed.result begun
+    (c.open_printed.ensures.stops s (c.in-Ok-None.ensures.live s (tells.state ∙ ap Some e)).live_is begun.state))
 
 pub returns-in-Ok-Some-clause-told : goal.returns-in-Ok-Some-clause-told
 returns-in-Ok-Some-clause-told g c = λ held words m tells safe.

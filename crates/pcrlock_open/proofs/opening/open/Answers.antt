@@ -17,7 +17,7 @@ returns-in-Ok-None-clause-told g c = λ held words m tells.
     (sym c.in-Ok-None.field-0-is ∙ c.in-Ok-None.ensures.told m.device tells.state)
     (λ s e. let begun = tells_begun held _ _ words m s c.ready.ensures.same e tells in
     gives_opened held _ _ words (record { files = m.files; state = s; draws = m.draws }) c.args.object c.args.literal.now c.open_on.result begun
-    (c.open_on.ensures.told s (c.in-Ok-None.ensures.live s (tells.state ∙ ap Some e)).live_is begun.state begun.rules))
+    (c.open_on.ensures.told s (c.in-Ok-None.ensures.live s (tells.state ∙ ap Some e)).live_is begun.state))
 
 pub returns-in-Ok-None-clause-stops : goal.returns-in-Ok-None-clause-stops
 returns-in-Ok-None-clause-stops g c = λ held words m tells.
@@ -26,7 +26,7 @@ returns-in-Ok-None-clause-stops g c = λ held words m tells.
     (sym c.in-Ok-None.field-0-is ∙ c.in-Ok-None.ensures.told m.device tells.state)
     (λ s e. let begun = tells_begun held _ _ words m s c.ready.ensures.same e tells in
     stopped held _ _ words (record { files = m.files; state = s; draws = m.draws }) c.args.literal.now c.args.object c.open_on.result begun
-    (c.open_on.ensures.stops s (c.in-Ok-None.ensures.live s (tells.state ∙ ap Some e)).live_is begun.state begun.rules))
+    (c.open_on.ensures.stops s (c.in-Ok-None.ensures.live s (tells.state ∙ ap Some e)).live_is begun.state))
 
 pub returns-in-Ok-Some-clause-told : goal.returns-in-Ok-Some-clause-told
 returns-in-Ok-Some-clause-told g c = λ held words m tells safe.

@@ -14,9 +14,9 @@ returns-in-Some-clause-causes g c =
 pub returns-in-Some-clause-told : goal.returns-in-Some-clause-told
 returns-in-Some-clause-told g c = λ m tells live.
     let drawn = c.in-Ok.ensures.told m.draws tells.draws in
-    drawn_told c.seal_key.result _ _ _ c.args.path.now c.args.literal.now c.in-Some.key c.in-Ok.word m.draws drawn.0 m drawn.1 c.in-Some.ensures.1
+    drawn_told c.seal_key.result _ _ _ c.args.path.now c.args.condition.now c.in-Some.key c.in-Ok.word m.draws drawn.0 m drawn.1 c.in-Some.ensures.1
     (c.seal_key.ensures.told (g.E.Entropy.draws c.draw.new.entropy) (record m { draws = drawn.0 })
-    (record { files = tells.files; state = tells.state; draws = drawn.2; rules = tells.rules }) live)
+    (record { files = tells.files; state = tells.state; draws = drawn.2 }) live)
 
 pub returns-in-Err-clause-causes : goal.returns-in-Err-clause-causes
 returns-in-Err-clause-causes g c =
@@ -27,10 +27,10 @@ returns-in-Err-clause-causes g c =
 pub returns-in-Some-clause-stops : goal.returns-in-Some-clause-stops
 returns-in-Some-clause-stops g c = λ m tells live.
     let drawn = c.in-Ok.ensures.told m.draws tells.draws in
-    drawn_stops c.seal_key.result _ _ c.args.path.now c.args.literal.now c.in-Some.key c.in-Ok.word m.draws drawn.0 m drawn.1 c.in-Some.ensures.1
+    drawn_stops c.seal_key.result _ _ c.args.path.now c.args.condition.now c.in-Some.key c.in-Ok.word m.draws drawn.0 m drawn.1 c.in-Some.ensures.1
     (c.seal_key.ensures.stops (g.E.Entropy.draws c.draw.new.entropy) (record m { draws = drawn.0 })
-    (record { files = tells.files; state = tells.state; draws = drawn.2; rules = tells.rules }) live)
+    (record { files = tells.files; state = tells.state; draws = drawn.2 }) live)
 
 pub returns-in-Err-clause-stops : goal.returns-in-Err-clause-stops
 returns-in-Err-clause-stops g c = λ m tells live.
-    key_first _ _ c.args.path.now c.args.literal.now None m.draws m (at_state _ _ _ m tells)
+    key_first _ _ c.args.path.now c.args.condition.now None m.draws m (at_state _ _ _ m tells)

@@ -1,6 +1,6 @@
 use Rattle.pcrlock_line.proofs.Composed.{then, stops, on_tpm, on_files}
 use Rattle.tpm_model.specs.ObjectCommands.{seal}
-use Rattle.pcrlock_seal.proofs.Sealed.{rules_of, sealed_told}
+use Rattle.pcrlock_seal.proofs.Sealed.{sealed_told}
 use Rattle.pcrlock_seal.proofs.Stops.{sealed_stops, seal_stops}
 use Rattle.pcrlock_seal.proofs.enrolling.seal_key.Goals as goal
 
@@ -14,11 +14,10 @@ returns-in-Ok-clause-causes g c =
 pub returns-in-Ok-clause-told : goal.returns-in-Ok-clause-told
 returns-in-Ok-clause-told g c = λ draws m tells live.
     let told = c.in-Ok.ensures.told m.state live tells.state in
-    let after = (seal c.policy_of_literal.result c.args.key.now m.state).1 in
-    sealed_told c.answered.result _ _ draws c.args.path.now c.args.literal.now c.args.key.now c.policy_of_literal.result m c.in-Ok.response
-    c.policy_of_literal.ensures told.answer
-    (c.answered.ensures.told (g.T.Tpm.stored c.ask.new.tpm) draws after m tells.files told.stored tells.draws
-    (rules_of (g.T.Tpm.live c.ask.new.tpm) after told.live (c.in-Ok.ensures.rules m.state live tells.rules)))
+    let after = (seal c.policy.result c.args.key.now m.state).1 in
+    sealed_told c.answered.result _ _ draws c.args.path.now c.args.condition.now c.args.key.now c.policy.result m c.in-Ok.response
+    c.policy.ensures told.answer
+    (c.answered.ensures.told (g.T.Tpm.stored c.ask.new.tpm) draws after m tells.files told.stored tells.draws)
 
 pub returns-in-Err-clause-causes : goal.returns-in-Err-clause-causes
 returns-in-Err-clause-causes g c =
@@ -29,13 +28,12 @@ returns-in-Err-clause-causes g c =
 pub returns-in-Ok-clause-stops : goal.returns-in-Ok-clause-stops
 returns-in-Ok-clause-stops g c = λ draws m tells live.
     let told = c.in-Ok.ensures.told m.state live tells.state in
-    let after = (seal c.policy_of_literal.result c.args.key.now m.state).1 in
-    sealed_stops c.answered.result _ _ c.args.path.now c.args.literal.now c.args.key.now c.policy_of_literal.result m c.in-Ok.response
-    c.policy_of_literal.ensures told.answer
-    (c.answered.ensures.stops (g.T.Tpm.stored c.ask.new.tpm) after m tells.files told.stored
-    (rules_of (g.T.Tpm.live c.ask.new.tpm) after told.live (c.in-Ok.ensures.rules m.state live tells.rules)))
+    let after = (seal c.policy.result c.args.key.now m.state).1 in
+    sealed_stops c.answered.result _ _ c.args.path.now c.args.condition.now c.args.key.now c.policy.result m c.in-Ok.response
+    c.policy.ensures told.answer
+    (c.answered.ensures.stops (g.T.Tpm.stored c.ask.new.tpm) after m tells.files told.stored)
 
 pub returns-in-Err-clause-stops : goal.returns-in-Err-clause-stops
 returns-in-Err-clause-stops g c = λ draws m tells live.
-    seal_stops _ _ c.args.path.now c.args.literal.now c.args.key.now c.policy_of_literal.result m c.policy_of_literal.ensures tells.files tells.rules c.as_slice-size.ensures.bound
+    seal_stops _ _ c.args.path.now c.args.condition.now c.args.key.now c.policy.result m c.policy.ensures tells.files
     (c.in-Err.ensures.stops m.state live tells.state)

@@ -12,5 +12,5 @@ returns-in-Some-clause-causes g c =
 
 pub returns-in-Some-clause-stops : goal.returns-in-Some-clause-stops
 returns-in-Some-clause-stops g c = λ m tells live. subst
-    (λ (k : Option (List ℕ)). IfErr c.seal_key.result (λ _. StandsAmong (g.F.Files.held c.seal_key.new.files) (g.T.Tpm.stored c.seal_key.new.tpm) (with_key c.args.path.now c.args.literal.now k m.draws m).stops))
+    (λ (k : Option (List ℕ)). IfErr c.seal_key.result (λ _. StandsAmong (g.F.Files.held c.seal_key.new.files) (g.T.Tpm.stored c.seal_key.new.tpm) (with_key c.args.path.now c.args.condition.now k m.draws m).stops))
     (sym c.in-Some.is) (c.seal_key.ensures.stops (g.E.Entropy.draws c.args.entropy.now) m tells live)
