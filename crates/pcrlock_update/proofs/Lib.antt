@@ -3,3 +3,8 @@ pub mod Sends
 pub mod Lists
 pub mod Seals
 pub mod Drawn
+pub mod Acts
+pub mod Comes
+pub mod Sound
+pub mod Makes
+pub mod Unchanged

@@ -10,13 +10,17 @@ use Rattle.pcrlock_line.specs.Running.{Keeps}
 use Rattle.pcrlock_line.specs.Stopped.{StandsAt, StandsAmong}
 use Rattle.pcrlock_line.proofs.Standing.{holds_same}
 use Rattle.pcrlock_line.specs.declared.stop.Stop.{Stop}
-use Rattle.pcrlock_update.specs.Changes.{Made, made_next, made_after, made_then, change_made, changes_made, Works, CameTo}
+use Rattle.pcrlock_update.specs.Changes.{Made, command_of, made_next, made_after, made_then, change_made, changes_made, Works, CameTo}
 use Rattle.pcrlock_update.specs.Sealed.{sealed_in, pin_sealed, object_made, pin_made}
+use Rattle.pcrlock_update.specs.Sending.{Sent}
 use Rattle.pcrlock_update.specs.declared.change.Change.{Change}
+use Rattle.pcrlock_update.specs.declared.change.Change.TheVariants as change
+use Rattle.pcrlock_update.specs.declared.change.TpmChange.{TpmChange}
+use Rattle.tpm_model.specs.Respond.{respond}
 
 -- a machine that is told stands
 pub works_at : (held : Option FileMap) (now : Option Parts) (kept : Option Stored) (m : Live) → Works held now kept m → StandsAt held kept (machine m)
-works_at held now kept m w = record { files = w.files; device = Holds m.state; tells = w.stored; rules = w.rules; same = holds_same m.state }
+works_at held now kept m w = record { files = w.files; device = Holds m.state; tells = w.stored; same = holds_same m.state }
 
 -- the machine before the changes is the first
 next_first : (held : Option FileMap) (kept : Option Stored) (o : Option Answer) (m n : Live) (rest : Live → Made) → StandsAt held kept (machine m) → StandsAmong held kept (made_next o m n rest).stops
@@ -55,6 +59,31 @@ stopped_first held kept path c others changes m e h =
     subst (λ (x : List Change). StandsAmong held kept (changes_made path x m).stops) (sym e)
     (stopped_next held kept path (change_made path c m).0 m (change_made path c m).1 (changes_made path others)
     (made_first held kept path others (change_made path c m).1) h)
+
+-- one change of the TPM
+one_came : (why o : Option Answer) (held : Option FileMap) (now : Option Parts) (kept : Option Stored) (path : List ℕ) (m n : Live) → why ≡ o → Works held now kept n
+    → (why ≡ (made_next o m n (changes_made path [])).refusal) × Works held now kept (made_next o m n (changes_made path [])).after
+one_came why None held now kept path m n e w = (e, w)
+one_came why (Some answer) held now kept path m n e w = (e, w)
+
+one_stopped : (o : Option Answer) (held : Option FileMap) (kept : Option Stored) (path : List ℕ) (m n : Live) → StandsAt held kept (machine m) ⊎ StandsAt held kept (machine n)
+    → StandsAmong held kept (made_next o m n (changes_made path [])).stops
+one_stopped None held kept path m n (inl at) = inl at
+one_stopped None held kept path m n (inr at) = inr (inl at)
+one_stopped (Some why) held kept path m n (inl at) = inl at
+one_stopped (Some why) held kept path m n (inr at) = inr (inl at)
+
+pub sent_came : (result : Result (Option Answer) Stop) (held : Option FileMap) (now : Option Parts) (kept : Option Stored) (path : List ℕ) (c : TpmChange) (m : Live) → held ≡ Some m.files
+    → Sent result now kept (command_of c) m.state → CameTo result held now kept (changes_made path (change.Tpm c ∷ []) m)
+sent_came (Ok why) held now kept path c m files h =
+    one_came why (change_made path (change.Tpm c) m).0 held now kept path m (change_made path (change.Tpm c) m).1 h.0 (record { files = files; live = h.1.live; stored = h.1.stored })
+sent_came (Err stop) held now kept path c m files (inl k) =
+    one_stopped (change_made path (change.Tpm c) m).0 held kept path m (change_made path (change.Tpm c) m).1
+    (inl (record { files = files; device = Holds m.state; tells = k.stored; same = holds_same m.state }))
+sent_came (Err stop) held now kept path c m files (inr k) =
+    let next : Parts = (respond (command_of c) m.state).1 in
+    one_stopped (change_made path (change.Tpm c) m).0 held kept path m (change_made path (change.Tpm c) m).1
+    (inr (record { files = files; device = Holds next; tells = k.stored; same = holds_same next }))
 
 -- ---- some changes, and then more
 
@@ -123,8 +152,8 @@ pub pin_stopped : (held : Option FileMap) (kept : Option Stored) (path : List �
     → StandsAmong held kept (pin_made index pin (λ object. changes_made path (changes object)) m).stops
 pin_stopped held kept path index pin changes m files (inl k) =
     object_stopped held kept path (sealed_in (pin_sealed index pin m.state).0) m (record m { state = (pin_sealed index pin m.state).1 }) changes
-    (inl (record { files = files; device = Holds m.state; tells = k.stored; rules = k.rules; same = holds_same m.state }))
+    (inl (record { files = files; device = Holds m.state; tells = k.stored; same = holds_same m.state }))
 pin_stopped held kept path index pin changes m files (inr k) =
     let next : Parts = (pin_sealed index pin m.state).1 in
     object_stopped held kept path (sealed_in (pin_sealed index pin m.state).0) m (record m { state = next }) changes
-    (inr (record { files = files; device = Holds next; tells = k.stored; rules = k.rules; same = holds_same next }))
+    (inr (record { files = files; device = Holds next; tells = k.stored; same = holds_same next }))

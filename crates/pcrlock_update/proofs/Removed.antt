@@ -1,6 +1,6 @@
 -- What the TPM and the files answer while a policy is taken away.
 use Rattle.std.proofs.Common.{◌≡◌, ◌⊎◌, ℕ, List, inl, inr, refl, sym, ap, subst, ◌∙◌}
-use Rattle.std.specs.Prelude.{Option, None, Some, Result, Ok, Err}
+use Rattle.std.specs.Prelude.{Option, None, Some, Result, Ok, Err, IfOk, IfErr}
 use Rattle.std.specs.FinMap.{get, remove}
 use Rattle.pl_base.specs.FileMap.{FileMap}
 use Rattle.pl_base.specs.FileAnswers.{RemoveLeaves}
@@ -11,14 +11,14 @@ use Rattle.nv_index.specs.Table.{index_at, public_of}
 use Rattle.policy_file.specs.declared.policy.Policy.{Policy}
 use Rattle.tpm_model.specs.declared.parts.Parts.{Parts}
 use Rattle.tpm_model.specs.IndexCommands.{nv_read_public, public_answer}
-use Rattle.tpm_model.specs.Rules.{HasRules}
 use Rattle.tpm_device.specs.Stored.{Stored, Holds}
 use Rattle.pcrlock_line.specs.Content.{content_at}
 use Rattle.pcrlock_answer.specs.declared.answer.Answer.{Answer}
 use Rattle.pcrlock_line.specs.declared.reply.Reply.{Reply}
 use Rattle.pcrlock_line.specs.Machine.{Machine, Live, machine}
 use Rattle.pcrlock_line.specs.Outcome.{Gives}
-use Rattle.pcrlock_line.specs.Running.{Keeps}
+use Rattle.pcrlock_line.specs.Running.{Keeps, Runs}
+use Rattle.pcrlock_line.specs.declared.stop.Stop.{Stop}
 use Rattle.pcrlock_line.specs.Stopped.{StandsAt, StandsAmong}
 use Rattle.pcrlock_line.proofs.Standing.{holds_same}
 use Rattle.pcrlock_deeds.specs.PolicyAt.{policy_by, policy_of, policy_limit}
@@ -49,14 +49,24 @@ pub file_there : (files : FileMap) (path : List ℕ) (policy : Policy) → polic
 file_there files path policy e = there path (get files path) policy e
 
 -- after a stop of a command on the TPM the state before is stored, or the next one
-pub either : (now : Option Stored) (s t : Parts) → HasRules s → HasRules t → (now ≡ Some (Holds s)) ⊎ (now ≡ Some (Holds t)) → Keeps now s ⊎ Keeps now t
-either now s t h k (inl same) = inl (record { stored = same; rules = h })
-either now s t h k (inr next) = inr (record { stored = next; rules = k })
+pub either : (now : Option Stored) (s t : Parts) → (now ≡ Some (Holds s)) ⊎ (now ≡ Some (Holds t)) → Keeps now s ⊎ Keeps now t
+either now s t (inl same) = inl (record { stored = same })
+either now s t (inr next) = inr (record { stored = next })
+
+-- the state that a device runs on with is stored
+pub keeps_on : {A : Type 0} (result : Result A Stop) (now : Option Parts) (kept : Option Stored) (s : Parts) → IfOk result (λ _. Runs now kept s) → IfOk result (λ _. Keeps kept s)
+keeps_on (Ok x) now kept s h = record { stored = h.stored }
+keeps_on (Err stop) now kept s h = tt
+
+-- a stop of what comes later
+pub stops_later : {A : Type 0} (P Q : Type 0) (result : Result A Stop) → IfErr result (λ _. Q) → IfErr result (λ _. P ⊎ Q)
+stops_later P Q (Ok x) h = tt
+stops_later P Q (Err stop) h = inr h
 
 -- after a stop of a reading the state is stored
-pub read_stopped : (now : Option Stored) (handle : ℕ) (s : Parts) → HasRules s → (now ≡ Some (Holds s)) ⊎ (now ≡ Some (Holds (nv_read_public handle s).1)) → Keeps now s
-read_stopped now handle s h (inl same) = record { stored = same; rules = h }
-read_stopped now handle s h (inr next) = record { stored = next ∙ ap (λ x. Some (Holds x)) (read_keeps handle s); rules = h }
+pub read_stopped : (now : Option Stored) (handle : ℕ) (s : Parts) → (now ≡ Some (Holds s)) ⊎ (now ≡ Some (Holds (nv_read_public handle s).1)) → Keeps now s
+read_stopped now handle s (inl same) = record { stored = same }
+read_stopped now handle s (inr next) = record { stored = next ∙ ap (λ x. Some (Holds x)) (read_keeps handle s) }
 
 -- what the removal of a file answers
 pub missing_there : {X : Type 0} (files : FileMap) (path bytes : List ℕ) (error : RemoveError) (now : Option FileMap) → error ≡ gone.Missing → get files path ≡ Some bytes
@@ -73,7 +83,7 @@ after_memory files path error now e h = let same = subst (λ (x : RemoveError). 
 -- files and a state that are told
 pub standing : (held : Option FileMap) (stored : Option Stored) (files : FileMap) (s : Parts) (draws : List (List ℕ)) → held ≡ Some files → Keeps stored s
     → StandsAt held stored (machine (record { files = files; state = s; draws = draws }))
-standing held stored files s draws e k = record { files = e; device = Holds s; tells = k.stored; rules = k.rules; same = holds_same s }
+standing held stored files s draws e k = record { files = e; device = Holds s; tells = k.stored; same = holds_same s }
 
 -- a stop before the file is removed
 pub not_stored : (held : Option FileMap) (stored : Option Stored) (path : List ℕ) (policy : Policy) (m : Live) → held ≡ Some m.files

@@ -13,8 +13,6 @@ use Rattle.tpm_model.specs.declared.command.Command.TheVariants as command
 use Rattle.tpm_model.specs.declared.parts.Parts.{Parts}
 use Rattle.tpm_model.specs.declared.response.Response.{Response}
 use Rattle.tpm_model.specs.Binding.{index_policy}
-use Rattle.tpm_model.specs.Rules.{HasRules}
-use Rattle.tpm_model.proofs.KeepsRules.{keeps-seal}
 use Rattle.tpm_device.specs.Stored.{Stored}
 use Rattle.pcrlock_answer.specs.declared.answer.Answer.{Answer}
 use Rattle.pcrlock_line.specs.Asked.{IsAnswered, IsStopped}
@@ -59,18 +57,18 @@ is_stated index pin object (Some before) table in_range is_object old valid = re
 by_result : (result : Result (Result ℕ Answer) Stop) (response : Response) (now : Option Parts) (kept : Option Stored) (index : ℕ) (pin : List ℕ) (s : Parts)
     → response ≡ (pin_sealed index pin s).0 → Runs now kept (pin_sealed index pin s).1 → IfOk result (λ sealed. sealed ≡ sealed_in response) → SealedSo result now kept index pin s
 by_result (Ok sealed) response now kept index pin s is runs told = (told ∙ ap sealed_in is, runs)
-by_result (Err stop) response now kept index pin s is runs told = inr (record { stored = runs.stored; rules = runs.rules })
+by_result (Err stop) response now kept index pin s is runs told = inr (record { stored = runs.stored })
 
 pub sealed_so : (result : Result (Result ℕ Answer) Stop) (given : Command) (response : Response) (readiness : Bool) (now : Option Parts) (kept : Option Stored) (index : ℕ) (pin : List ℕ) (s : Parts)
-    → given ≡ command.Seal (index_policy index pin) pin → length pin ≤ 128 → HasRules s → IsAnswered given s response readiness now kept
+    → given ≡ command.Seal (index_policy index pin) pin → IsAnswered given s response readiness now kept
     → IfOk result (λ sealed. sealed ≡ sealed_in response) → SealedSo result now kept index pin s
-sealed_so result given response readiness now kept index pin s is short h told value =
+sealed_so result given response readiness now kept index pin s is told value =
     let answered : IsAnswered (command.Seal (index_policy index pin) pin) s response readiness now kept =
     subst (λ (x : Command). IsAnswered x s response readiness now kept) is told in
     by_result result response now kept index pin s answered.answer
-    (record { live = answered.live; stored = answered.stored; rules = keeps-seal (index_policy index pin) pin s short h }) value
+    (record { live = answered.live; stored = answered.stored }) value
 
-pub seal_stopped : (kept : Option Stored) (given : Command) (index : ℕ) (pin : List ℕ) (s : Parts) → given ≡ command.Seal (index_policy index pin) pin → length pin ≤ 128 → HasRules s
+pub seal_stopped : (kept : Option Stored) (given : Command) (index : ℕ) (pin : List ℕ) (s : Parts) → given ≡ command.Seal (index_policy index pin) pin
     → IsStopped given s kept → Keeps kept s ⊎ Keeps kept (pin_sealed index pin s).1
-seal_stopped kept given index pin s is short h stop =
-    either kept s (pin_sealed index pin s).1 h (keeps-seal (index_policy index pin) pin s short h) (subst (λ (x : Command). IsStopped x s kept) is stop)
+seal_stopped kept given index pin s is stop =
+    either kept s (pin_sealed index pin s).1 (subst (λ (x : Command). IsStopped x s kept) is stop)

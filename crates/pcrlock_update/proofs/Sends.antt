@@ -4,25 +4,15 @@ use Rattle.std.specs.Prelude.{Option, Some}
 use Rattle.tpm_model.specs.declared.command.Command.{Command}
 use Rattle.tpm_model.specs.declared.parts.Parts.{Parts}
 use Rattle.tpm_model.specs.Respond.{respond}
-use Rattle.tpm_model.specs.Rules.{HasRules}
-use Rattle.tpm_model.proofs.KeepsIndices.{keeps-nv_define, keeps-nv_undefine, keeps-nv_write}
-use Rattle.tpm_model.proofs.KeepsRules.{keeps-evict}
 use Rattle.tpm_device.specs.Stored.{Stored, Holds}
 use Rattle.pcrlock_line.specs.Running.{Keeps}
 use Rattle.pcrlock_update.specs.Changes.{command_of}
 use Rattle.pcrlock_update.specs.declared.change.TpmChange.{TpmChange}
-use Rattle.pcrlock_update.specs.declared.change.TpmChange.TheVariants as tpm
 use Rattle.pcrlock_update.proofs.Removed.{either}
 
-pub rules_after : (c : TpmChange) (s : Parts) → HasRules s → HasRules (respond (command_of c) s).1
-rules_after (tpm.Undefine index) s h = keeps-nv_undefine index s h
-rules_after (tpm.Define public) s h = keeps-nv_define public s h
-rules_after (tpm.Write index pin value) s h = keeps-nv_write index pin value s h
-rules_after (tpm.Evict object) s h = keeps-evict object s h
-
 -- after a stop the state before is stored, or the next one
-pub send_stopped : (now : Option Stored) (c : TpmChange) (given : Command) (s : Parts) → given ≡ command_of c → HasRules s
+pub send_stopped : (now : Option Stored) (c : TpmChange) (given : Command) (s : Parts) → given ≡ command_of c
     → (now ≡ Some (Holds s)) ⊎ (now ≡ Some (Holds (respond given s).1)) → Keeps now s ⊎ Keeps now (respond (command_of c) s).1
-send_stopped now c given s is h stop =
-    either now s (respond (command_of c) s).1 h (rules_after c s h)
+send_stopped now c given s is stop =
+    either now s (respond (command_of c) s).1
     (subst (λ (x : Command). (now ≡ Some (Holds s)) ⊎ (now ≡ Some (Holds (respond x s).1))) is stop)

@@ -10,7 +10,6 @@ use Rattle.tpm_model.specs.declared.response.Response.TheVariants as answer
 use Rattle.tpm_model.specs.declared.response.Refusal.{Refusal}
 use Rattle.tpm_model.specs.declared.response.Refusal.TheVariants as refusal
 use Rattle.tpm_model.specs.Respond.{respond}
-use Rattle.tpm_model.specs.Rules.{HasRules}
 use Rattle.tpm_device.specs.Stored.{Stored, Holds}
 use Rattle.pcrlock_answer.specs.declared.answer.Answer.{Answer}
 use Rattle.pcrlock_answer.specs.declared.answer.Answer.TheVariants as said
@@ -73,12 +72,11 @@ made_after (Some why) made rest = made
 abbrev pub made_then : Made → (Live → Made) → Made
 made_then made rest = made_after made.refusal made rest
 
--- the files are these; the state is live and stored, and has its rules
+-- the files are these; the state is live and stored
 pub record Works (held : Option FileMap) (now : Option Parts) (kept : Option Stored) (m : Live) : Type 0 where
   pub files : held ≡ Some m.files
   pub live : now ≡ Some m.state
   pub stored : kept ≡ Some (Holds m.state)
-  pub rules : HasRules m.state
 
 -- changes came to this; after a stop some of them were made
 abbrev pub CameTo : Result (Option Answer) Stop → Option FileMap → Option Parts → Option Stored → Made → Type 0

@@ -5,3 +5,4 @@ pub mod Sealed
 pub mod NewPolicy
 pub mod Update
 pub mod Standing
+pub mod Acts

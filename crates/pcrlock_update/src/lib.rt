@@ -5,6 +5,7 @@
 mod building;
 mod change;
 mod changing;
+pub mod laws;
 mod lines;
 mod making;
 mod removing;
@@ -17,3 +18,4 @@ pub use crate::making::make_new_policy;
 pub use crate::removing::remove_policy;
 pub use crate::replacing::{update_policy, update_with_pin};
 pub use crate::standing::test_standing;
+pub use crate::updating::pin_in;

@@ -60,8 +60,8 @@ pub(crate) fn named_by(
     }
 }
 
-/// The object that holds the pin of a policy file.
-pub(crate) fn pin_in(found: Option<&Policy>) -> Option<u32>
+/// The handle of the object that holds the pin of a policy file, where one is there.
+pub fn pin_in(found: Option<&Policy>) -> Option<u32>
     ensures { result ≡ pin_of_file (option_copied found.entry) }
 {
     match found {

@@ -20,4 +20,4 @@ returns-in-Err-clause-causes g c =
 pub returns-in-Err-clause-stops : goal.returns-in-Err-clause-stops
 returns-in-Err-clause-stops g c = λ words m tells live.
     not_stored _ _ c.args.path.now c.args.policy.now m tells.files
-    (c.in-Err.ensures.stops m.state (record { live = live; stored = tells.state; rules = tells.rules }))
+    (c.in-Err.ensures.stops m.state (record { live = live; stored = tells.state }))

@@ -12,7 +12,7 @@ returns-in-Ok-clause-told g c = λ words m tells.
     let stands = file_there m.files c.args.path.now c.in-Ok-Ok-Some.policy read in
     told_read _ _ words c.args.state.now c.args.path.now c.in-Ok-Ok-Some.policy m c.in-Ok.reply read
     (c.in-Ok.ensures.told words m stands.0
-    (record { files = c.policy_at.ensures.same ∙ tells.files; state = tells.state; draws = tells.draws; rules = tells.rules }) stands.1)
+    (record { files = c.policy_at.ensures.same ∙ tells.files; state = tells.state; draws = tells.draws }) stands.1)
 
 pub returns-in-Ok-Ok-Some-clause-causes : goal.returns-in-Ok-Ok-Some-clause-causes
 returns-in-Ok-Ok-Some-clause-causes g c =
@@ -28,7 +28,7 @@ returns-in-Ok-Ok-Some-clause-stops g c = λ words m tells.
     sym (c.in-Ok-Ok-Some.ensures.told m.files tells.files) ∙ c.in-Ok-Ok-Some.field-0-is ∙ ap Ok c.in-Ok-Ok-Some.field-0-0-is in
     stops_read _ _ c.args.state.now c.args.path.now c.in-Ok-Ok-Some.policy m read
     (c.in-Err-remove_read.ensures.stops words m
-    (record { files = c.policy_at.ensures.same ∙ tells.files; state = tells.state; draws = tells.draws; rules = tells.rules }))
+    (record { files = c.policy_at.ensures.same ∙ tells.files; state = tells.state; draws = tells.draws }))
 
 pub returns-clause-causes : goal.returns-clause-causes
 returns-clause-causes g c =
