@@ -1,0 +1,5 @@
+pub mod Asked
+pub mod Foreseen
+pub mod IndexState
+pub mod MakePolicy
+pub mod Acts
