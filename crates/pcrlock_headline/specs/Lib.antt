@@ -1,0 +1,4 @@
+pub mod Enrolled
+pub mod Exact
+pub mod Only
+pub mod Calm
