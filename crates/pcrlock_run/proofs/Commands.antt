@@ -1,6 +1,7 @@
 -- Which command a request is.
 use Rattle.std.proofs.Common.{◌≡◌, ℕ, ◌+◌, ◌||◌, Bool, true, false, List, refl, sym, ap, ◌∙◌, subst}
-use Rattle.std.specs.Prelude.{Option, Some, ◌==◌}
+use Rattle.std.specs.Prelude.{Option, None, Some, ◌==◌}
+use Rattle.std.specs.Option.{unwrap_or}
 use Rattle.tpm_model.specs.Pcrs.{one_if}
 use Rattle.pcrlock_tpm.specs.Boot.{tpm_boot_line}
 use Rattle.pcrlock_words.specs.declared.request.Request.{Request}
@@ -16,12 +17,17 @@ use Rattle.pcrlock_exec.specs.Exec.{tpm_exec_line}
 use Rattle.pcrlock_tpm.specs.Extend.{tpm_extend_line}
 use Rattle.hash_bank.specs.declared.bank.Bank.{Bank}
 use Rattle.pcrlock_line.specs.Outcome.{Outcome}
-use Rattle.pcrlock_seal.specs.Enroll.{enroll_line}
+use Rattle.pcrlock_seal.specs.Enroll.{enroll_bound_line, enroll_line}
 use Rattle.pcrlock_open.specs.Unseal.{unseal_line}
 use Rattle.component_make.specs.declared.kind.FirmwareKind.TheVariants.{Code, Config}
 use Rattle.pcrlock_lock.specs.LockFirmware.{lock_firmware_line}
 use Rattle.pcrlock_lock.specs.UnlockFirmware.{unlock_firmware_line}
 use Rattle.pcrlock_lock.specs.LockRaw.{lock_raw_line}
+use Rattle.pcrlock_proofs.specs.declared.asked.Asked.{Asked}
+use Rattle.pcrlock_proofs.specs.CheckProof.{check_proof_line}
+use Rattle.pcrlock_proofs.specs.Prove.{prove_line}
+use Rattle.pcrlock_update.specs.RemovePolicy.{remove_policy_line}
+use Rattle.pcrlock_policy.specs.MakePolicy.{make_policy_line}
 use Rattle.pcrlock_run.specs.Setting.{Setting}
 use Rattle.pcrlock_run.specs.Script.{command_line, enroll_outcome, unseal_outcome}
 
@@ -50,18 +56,23 @@ pub extends : (setting : Setting) (request : Request) (pcr : ℕ) (bytes given :
 unfolding command_line
 extends setting request pcr bytes given m is same = ap (λ (r : Request). command_line setting r m) is ∙ ap (λ (b : List ℕ). tpm_extend_line setting.state pcr b m) (sym same)
 
--- an enrolling under a PCR, and one by its request
-pub enrolls_under : (state token : List ℕ) (key : Option (List ℕ)) (literal : Option ℕ) (pcr : ℕ) (bank : Bank) (m : Machine) → literal ≡ Some pcr
-    → enroll_outcome state token key literal bank m ≡ enroll_line state token pcr bank key m
+-- an enrolling under a PCR or the policy, and one by its request
+pub enrolls_under : (state token policy : List ℕ) (key : Option (List ℕ)) (literal : Option ℕ) (pcr : ℕ) (bank : Bank) (m : Machine) → literal ≡ Some pcr
+    → enroll_outcome state token policy key literal bank m ≡ enroll_line state token pcr bank key m
 unfolding enroll_outcome
-enrolls_under state token key literal pcr bank m is = ap (λ (l : Option ℕ). enroll_outcome state token key l bank m) is
+enrolls_under state token policy key literal pcr bank m is = ap (λ (l : Option ℕ). enroll_outcome state token policy key l bank m) is
+
+pub enrolls_bound : (state token policy : List ℕ) (key : Option (List ℕ)) (literal : Option ℕ) (bank : Bank) (m : Machine) → literal ≡ None
+    → enroll_outcome state token policy key literal bank m ≡ enroll_bound_line state token policy key m
+unfolding enroll_outcome
+enrolls_bound state token policy key literal bank m is = ap (λ (l : Option ℕ). enroll_outcome state token policy key l bank m) is
 
 pub enrolls : (setting : Setting) (request : Request) (token policy : List ℕ) (key : Option (List ℕ)) (literal : Option ℕ) (bank : Bank) (m : Machine) → request ≡ requests.Enroll token policy key literal bank
-    → command_line setting request m ≡ enroll_outcome setting.state token key literal bank m
+    → command_line setting request m ≡ enroll_outcome setting.state token policy key literal bank m
 unfolding command_line
 enrolls setting request token policy key literal bank m is = ap (λ (r : Request). command_line setting r m) is
 
-pub unseals : (setting : Setting) (request : Request) (token policy : List ℕ) (m : Machine) → request ≡ requests.Unseal token policy → command_line setting request m ≡ unseal_line setting.state token m
+pub unseals : (setting : Setting) (request : Request) (token policy : List ℕ) (m : Machine) → request ≡ requests.Unseal token policy → command_line setting request m ≡ unseal_line setting.state token policy m
 unfolding command_line unseal_outcome
 unseals setting request token policy m is = ap (λ (r : Request). command_line setting r m) is
 
@@ -134,3 +145,36 @@ unlocks_config setting request folder variant m is = ap (λ (r : Request). comma
 pub locks_raw : (setting : Setting) (request : Request) (file : List ℕ) (pcr : ℕ) (output : List ℕ) (m : Machine) → request ≡ requests.LockRaw file pcr output → command_line setting request m ≡ lock_raw_line file pcr output m
 unfolding command_line
 locks_raw setting request file pcr output m is = ap (λ (r : Request). command_line setting r m) is
+
+pub proves : (setting : Setting) (request : Request) (output : List ℕ) (folders given : List (List ℕ)) (location : Window) (asked : Asked) (m : Machine)
+    → request ≡ requests.Prove output folders location asked.pcrs asked.bank asked.locality asked.joint → given ≡ folders
+    → command_line setting request m ≡ prove_line output given location asked m
+unfolding command_line
+proves setting request output folders given location asked m is same =
+    ap (λ (r : Request). command_line setting r m) is ∙ ap (λ (x : List (List ℕ)). prove_line output x location asked m) (sym same)
+
+pub checks : (setting : Setting) (request : Request) (proof : List ℕ) (folders given : List (List ℕ)) (location : Window) (m : Machine)
+    → request ≡ requests.CheckProof proof folders location → given ≡ folders → command_line setting request m ≡ check_proof_line proof given location m
+unfolding command_line
+checks setting request proof folders given location m is same =
+    ap (λ (r : Request). command_line setting r m) is ∙ ap (λ (x : List (List ℕ)). check_proof_line proof x location m) (sym same)
+
+pub makes_policy : (setting : Setting) (request : Request) (firmware user f u : Option (List ℕ)) (folders given : List (List ℕ)) (location : Window) (pcrs : ℕ) (bank : Bank) (joint : Bool)
+    (policy : List ℕ) (named : Option ℕ) (index : ℕ) (pin p : Option (List ℕ)) (force : Bool) (m : Machine)
+    → request ≡ requests.MakePolicy firmware user folders location pcrs bank policy named pin force joint → f ≡ firmware → u ≡ user → given ≡ folders → index ≡ unwrap_or named setting.index → p ≡ pin
+    → command_line setting request m ≡ make_policy_line setting.state (record { firmware = f; user = u; folders = given; window = location; pcrs = pcrs; bank = bank; joint = joint })
+    (record { path = policy; index = index; pin = p; force = force }) m
+unfolding command_line
+makes_policy setting request firmware user f u folders given location pcrs bank joint policy named index pin p force m is same also all here one =
+    let log = sym same in
+    let other = sym also in
+    let tree = sym all in
+    let handle = sym here in
+    let bytes = sym one in
+    ap (λ (r : Request). command_line setting r m) is
+    ∙ (λ i. make_policy_line setting.state (record { firmware = log i; user = other i; folders = tree i; window = location; pcrs = pcrs; bank = bank; joint = joint })
+    (record { path = policy; index = handle i; pin = bytes i; force = force }) m)
+
+pub removes_policy : (setting : Setting) (request : Request) (policy : List ℕ) (m : Machine) → request ≡ requests.RemovePolicy policy → command_line setting request m ≡ remove_policy_line setting.state policy m
+unfolding command_line
+removes_policy setting request policy m is = ap (λ (r : Request). command_line setting r m) is

@@ -11,3 +11,4 @@ pub mod Worlds
 pub mod Under
 pub mod EachRequest
 pub mod Headline
+pub mod Unseals

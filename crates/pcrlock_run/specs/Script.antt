@@ -17,30 +17,34 @@ use Rattle.pcrlock_predict.specs.Predict.{predict_line}
 use Rattle.pcrlock_exec.specs.Exec.{tpm_exec_line}
 use Rattle.pcrlock_tpm.specs.Boot.{tpm_boot_line}
 use Rattle.pcrlock_tpm.specs.Extend.{tpm_extend_line}
-use Rattle.pcrlock_seal.specs.Enroll.{enroll_line}
+use Rattle.pcrlock_seal.specs.Enroll.{enroll_bound_line, enroll_line}
 use Rattle.pcrlock_open.specs.Unseal.{unseal_line}
 use Rattle.component_make.specs.declared.kind.FirmwareKind.TheVariants.{Code, Config}
 use Rattle.pcrlock_lock.specs.LockFirmware.{lock_firmware_line}
 use Rattle.pcrlock_lock.specs.UnlockFirmware.{unlock_firmware_line}
 use Rattle.pcrlock_lock.specs.LockRaw.{lock_raw_line}
-use Rattle.pcrlock_run.specs.Setting.{Setting}
+use Rattle.pcrlock_proofs.specs.CheckProof.{check_proof_line}
+use Rattle.pcrlock_proofs.specs.Prove.{prove_line}
+use Rattle.pcrlock_update.specs.RemovePolicy.{remove_policy_line}
+use Rattle.pcrlock_policy.specs.MakePolicy.{make_policy_line}
+use Rattle.pcrlock_run.specs.Setting.{Setting, target_in}
 use Rattle.pcrlock_run.specs.Status.{status_of, out_of, err_of}
 
--- `enroll` under the present value of a PCR; one without a PCR is no command yet
-unfoldable pub enroll_outcome : List ℕ → List ℕ → Option (List ℕ) → Option ℕ → Bank → Machine → Outcome
-enroll_outcome state token key (Some pcr) bank m = enroll_line state token pcr bank key m
-enroll_outcome state token key None bank m = refused_line answers.BadWords m
+-- `enroll` under the present value of a PCR, or else under the policy
+unfoldable pub enroll_outcome : List ℕ → List ℕ → List ℕ → Option (List ℕ) → Option ℕ → Bank → Machine → Outcome
+enroll_outcome state token policy key (Some pcr) bank m = enroll_line state token pcr bank key m
+enroll_outcome state token policy key None bank m = enroll_bound_line state token policy key m
 
 -- `unseal` of a token
-unfoldable pub unseal_outcome : List ℕ → List ℕ → Machine → Outcome
-unseal_outcome state token m = unseal_line state token m
+unfoldable pub unseal_outcome : List ℕ → List ℕ → List ℕ → Machine → Outcome
+unseal_outcome state token policy m = unseal_line state token policy m
 
 -- what a command does, by cases, under what is in force. A script inside a script is no command, and neither
 -- is yet what stands in no case
 unfoldable pub command_line : Setting → Request → Machine → Outcome
 command_line setting (requests.TpmExtend pcr bytes) m = tpm_extend_line setting.state pcr bytes m
-command_line setting (requests.Enroll token policy key literal bank) m = enroll_outcome setting.state token key literal bank m
-command_line setting (requests.Unseal token policy) m = unseal_outcome setting.state token m
+command_line setting (requests.Enroll token policy key literal bank) m = enroll_outcome setting.state token policy key literal bank m
+command_line setting (requests.Unseal token policy) m = unseal_outcome setting.state token policy m
 command_line setting (requests.Cel firmware user) m = cel_line firmware user m
 command_line setting (requests.ListComponents folders) m = list_components_line folders m
 command_line setting (requests.TpmBoot firmware user locality banks) m = tpm_boot_line setting.state firmware user locality banks m
@@ -52,6 +56,13 @@ command_line setting (requests.LockFirmwareConfig log folder variant) m = lock_f
 command_line setting (requests.UnlockFirmwareCode folder variant) m = unlock_firmware_line Code folder variant m
 command_line setting (requests.UnlockFirmwareConfig folder variant) m = unlock_firmware_line Config folder variant m
 command_line setting (requests.LockRaw file pcr output) m = lock_raw_line file pcr output m
+command_line setting (requests.Prove output folders location pcr bank locality joint) m =
+    prove_line output folders location (record { pcrs = pcr; bank = bank; locality = locality; joint = joint }) m
+command_line setting (requests.CheckProof proof folders location) m = check_proof_line proof folders location m
+command_line setting (requests.MakePolicy firmware user folders location pcr bank policy index pin force joint) m =
+    make_policy_line setting.state (record { firmware = firmware; user = user; folders = folders; window = location; pcrs = pcr; bank = bank; joint = joint })
+    (target_in setting policy index pin force) m
+command_line setting (requests.RemovePolicy policy) m = remove_policy_line setting.state policy m
 command_line setting _ m = refused_line answers.BadWords m
 
 -- what words do that spell a request, or none

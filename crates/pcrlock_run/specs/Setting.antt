@@ -1,5 +1,7 @@
 -- What is in force where a command runs.
-use Rattle.std.specs.Prelude.{ℕ, List, Option, None, Some, option_copied}
+use Rattle.std.specs.Prelude.{ℕ, Bool, List, Option, None, Some, option_copied}
+use Rattle.std.specs.Option.{unwrap_or}
+use Rattle.pcrlock_policy.specs.Asked.{Target}
 use Rattle.pcrlock_run.specs.declared.setting.Setting.{Setting as Lent}
 
 -- the path of the TPM's state; the policy path that a script gives its lines; and the NV index for a command
@@ -20,3 +22,7 @@ outside state = record { state = state; policy = None; index = 0x01800100 }
 -- for the lines of a script with this policy path and index
 abbrev pub inside : List ℕ → List ℕ → ℕ → Setting
 inside state policy index = record { state = state; policy = Some policy; index = index }
+
+-- where a policy is put in force: under the index that the words name, else under the one for words that name none
+abbrev pub target_in : Setting → List ℕ → Option ℕ → Option (List ℕ) → Bool → Target
+target_in setting policy index pin force = record { path = policy; index = unwrap_or index setting.index; pin = pin; force = force }

@@ -7,6 +7,7 @@ mod command;
 mod file;
 mod next;
 mod script;
+mod scripted;
 mod setting;
 mod show;
 mod status;

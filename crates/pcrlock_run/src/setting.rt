@@ -1,8 +1,6 @@
 //! What is in force where a command runs.
-ghost use Rattle.std.specs.Prelude.{◌≡◌};
-ghost use Rattle.pcrlock_run.specs.Whole.{script_in, scripted};
+ghost use Rattle.pcrlock_words.specs.ProperRequest.{IsIndex};
 
-use pcrlock_words::Request;
 use pl_base::Name;
 
 /// The NV index for a command whose words name none, outside a script.
@@ -17,6 +15,7 @@ pub struct Setting<'a> {
     pub policy: Option<&'a Name>,
     /// The handle of the NV index for a command whose words name none.
     pub index: u32,
+    ghost proper: { IsIndex index },
 }
 
 /// The script that a request runs.
@@ -28,42 +27,4 @@ pub struct Script<'a> {
     pub policy: &'a Name,
     /// The handle of the NV index for its lines.
     pub index: u32,
-}
-
-/// The script that the request runs, if it is a script's.
-pub fn script_of(request: &Request) -> Option<Script<'_>>
-    ensures { scripted result ≡ script_in request.now }
-{
-    match request {
-        Request::Script {
-            file,
-            policy,
-            index,
-        } => Some(Script {
-            file,
-            policy,
-            index: *index,
-        }),
-        Request::Cel { .. }
-        | Request::ListComponents { .. }
-        | Request::Predict { .. }
-        | Request::Enroll { .. }
-        | Request::Unseal { .. }
-        | Request::TpmBoot { .. }
-        | Request::Log { .. }
-        | Request::TpmExec { .. }
-        | Request::TpmExtend { .. }
-        | Request::MakePolicy { .. }
-        | Request::RemovePolicy { .. }
-        | Request::Race { .. }
-        | Request::Gen { .. }
-        | Request::LockFirmwareCode { .. }
-        | Request::LockFirmwareConfig { .. }
-        | Request::UnlockFirmwareCode { .. }
-        | Request::UnlockFirmwareConfig { .. }
-        | Request::LockRaw { .. }
-        | Request::Broker { .. }
-        | Request::Prove { .. }
-        | Request::CheckProof { .. } => None,
-    }
 }

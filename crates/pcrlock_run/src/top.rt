@@ -23,15 +23,17 @@ ghost use Rattle.pcrlock_run.specs.Whole.{alone, run_script as script_run, run_r
 ghost use Rattle.pcrlock_run.specs.Says.{Says};
 ghost use Rattle.pcrlock_run.specs.Leaves.{Safe, Leaves, IsNoScript};
 ghost use Rattle.pcrlock_run.specs.Worlds.{run_world};
+ghost use Rattle.pcrlock_run.specs.Unseals.{UnsealsOpen};
 ghost use Rattle.pcrlock_run.specs.Under.{IsKeptAt, IsOwnKeptAt, IsUnder};
 ghost use Rattle.pcrlock_run.specs.EachRequest.{RunHas};
-ghost use Rattle.pcrlock_run.specs.Headline.{CallIsExact, UnsealIsExact, token_spelled};
+ghost use Rattle.pcrlock_run.specs.Headline.{CallIsExact, CallOpensBound, UnsealIsExact, token_spelled};
 ghost use Rattle.pcrlock_run.specs.Setting.{outside, setting_of};
 
 use crate::command::command;
 use crate::file::read_script;
 use crate::script::script;
-use crate::setting::{DEFAULT_INDEX, Setting, script_of};
+use crate::scripted::script_of;
+use crate::setting::{DEFAULT_INDEX, Setting};
 use crate::show::{refuse, show_alone, tell};
 use crate::status::{Status, stop_number};
 use pcrlock_line::Stop;
@@ -259,14 +261,24 @@ pub fn run<F: Files, T: Tpm, E: Entropy, O: Sink, R: Sink>(
     // And so are what sessions saw and read.
     ensures trails { (m : Machine) (w : World) (path : Sequence ℕ) → IsUnder words.now path → IsKeptAt path m w → Clean (run_world words.now m w) → Safe (run_world words.now m w).hashed
         → IsKeptAt path (run_line words.now m).after (run_world words.now m w) }
-    // Each `unseal` prints the key of an object of the world exactly where the PCR holds the value that
-    // the key was sealed to.
+    // Each `unseal` prints the key of an object of the world exactly where the PCR holds the value that the key was
+    // sealed to; or, where it is bound to the policy's index, exactly where the newest table of the index is open: its
+    // bank is present, and each of its rows lists what the row's PCRs hold.
     ensures headline { (m : Machine) (w : World) (path : Sequence ℕ) → IsUnder words.now path → IsOwnKeptAt path m w → Clean (run_world words.now m w) → Safe (run_world words.now m w).hashed
         → RunHas UnsealIsExact words.now m w }
+    // Each Unseal among the TPM commands of a file, whoever sent them, gives the bytes of an object of the world
+    // only by what it is bound to: while the PCR holds the value, or to a session that walked a table that the
+    // program wrote into the index, and then read that very write, while the table is open.
+    ensures unseals { (m : Machine) (w : World) (path : Sequence ℕ) → IsUnder words.now path → IsKeptAt path m w → Clean (run_world words.now m w) → Safe (run_world words.now m w).hashed
+        → RunHas UnsealsOpen words.now m w }
     // A call of `unseal` gives 0 and prints the key exactly where the PCR holds the value that the key was
     // sealed to, and else prints nothing.
     ensures opens { (m : Machine) (w : World) → Tells (F.held files.old) (T.stored tpm.old) (E.draws entropy.old) m → IsTied m.device w → Safe (run_world words.now m w).hashed → result ≢ 5 → result ≢ 6
         → CallIsExact (token_spelled (request_of words.now None)) m w result (O.written out.old) (O.written out.new) }
+    // And for an object that is bound to the policy's index, exactly where the newest table of the index is open.
+    ensures unlocks { (m : Machine) (w : World) (path : Sequence ℕ) → Tells (F.held files.old) (T.stored tpm.old) (E.draws entropy.old) m → IsUnder words.now path → IsOwnKeptAt path m w
+        → Safe (run_world words.now m w).hashed → result ≢ 5 → result ≢ 6
+        → CallOpensBound (token_spelled (request_of words.now None)) m w result (O.written out.old) (O.written out.new) }
     ensures bounded { result ≤ 7 }
 {
     match run_words(alloc, words, files, tpm, entropy, out, err) {

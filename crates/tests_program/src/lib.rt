@@ -8,6 +8,8 @@ mod fixtures;
 #[cfg(test)]
 mod making;
 #[cfg(test)]
+mod noting;
+#[cfg(test)]
 mod opening;
 #[cfg(test)]
 mod reading;

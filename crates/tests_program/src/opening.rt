@@ -1,12 +1,14 @@
-//! That an object that is bound to an index is opened with ample memory, and what is answered where it isn't.
+//! That an object that is bound to an index is opened with ample memory, by which commands, and what is answered where
+//! it isn't.
 ghost use Rattle.std.specs.Prelude.{IfOk};
 ghost use Rattle.policy_file.specs.PolicyText.{IsPolicy};
 
 use crate::fixtures::{BANKS, FIRST_FILE, FIRST_HELD, INDEX, PIN, SECOND_HELD, said, small};
+use crate::noting::NotingTpm;
 use hash_bank::{Digest, hash_all};
 use nv_index::{NvPublic, index_name};
-use pcrlock_open::open_bound;
-use pl_base::{List, Name, Small};
+use pcrlock_open::{open_bound, unseal};
+use pl_base::{List, MemFiles, Name, Small};
 use policy_digest::{pin_policy, policy_authorize_nv};
 use policy_file::{Policy, read_policy};
 use std::alloc::Global;
@@ -135,5 +137,47 @@ fn an_index_of_another_table_is_outdated(rt: HostRuntime) -> Result<(), Fail> {
     let state = machine(alloc, &held, Made::Written)?;
     let printed = prints(alloc, state, 0x8100_0000)?;
     assert!(rt; printed.as_slice().starts_with(b"outdated: index "));
+    Ok(())
+}
+
+/// The token of the first object, bound to an index: `PLTOK`, version 1, the handle 0x81000000, and kind 0.
+const TOKEN: &str = "504c544f4b0000018100000000";
+
+/// The files of a bound key: its token, and the policy file.
+fn key_files(alloc: Global) -> Result<MemFiles, Fail> {
+    let mut files = MemFiles::new(alloc, List::new(alloc));
+    let token = hex::decode(alloc, TOKEN)?;
+    files.put("token", token.as_slice())?;
+    let policy = hex::decode(alloc, FIRST_FILE)?;
+    files.put("policy", policy.as_slice())?;
+    Ok(files)
+}
+
+/// What `unseal` of the bound key prints.
+fn unsealed(alloc: Global, tpm: &mut NotingTpm) -> Result<Vec<u8>, Fail> {
+    let mut files = key_files(alloc)?;
+    let state = Name::from_text(alloc, "tpm")?;
+    let token = Name::from_text(alloc, "token")?;
+    let policy = Name::from_text(alloc, "policy")?;
+    said(
+        alloc,
+        unseal(alloc, &mut files, tpm, &state, &token, &policy),
+    )
+}
+
+/// Whether these commands end with those that open the key, and none of them reads a PCR.
+fn opens_without_reading(noted: &[&'static str]) -> bool {
+    !noted.contains(&"PCR_Read") && noted.ends_with(&["Unseal", "FlushContext"])
+}
+
+#[test]
+fn a_bound_key_is_opened_without_reading_a_pcr(rt: HostRuntime) -> Result<(), Fail> {
+    let alloc = rt.alloc();
+    let held = small(alloc, FIRST_HELD)?;
+    let state = machine(alloc, &held, Made::Written)?;
+    let mut tpm = NotingTpm::new(alloc, SoftTpm::new(state, List::new(alloc)));
+    let printed = unsealed(alloc, &mut tpm)?;
+    assert_eq!(rt; printed.as_slice(), b"key 00ff\n".as_slice());
+    assert!(rt; opens_without_reading(tpm.noted()));
     Ok(())
 }

@@ -16,8 +16,8 @@ returns-in-Ok-clause-told g c = λ m tells. by_outcome _ _
 
 pub returns-in-Ok-clause-stops : goal.returns-in-Ok-clause-stops
 returns-in-Ok-clause-stops g c = λ m tells. by_outcome _ _
-    (λ (o : Outcome). IfErr c.command.result (λ _. StandsAmong (g.F.Files.held c.command.new.files) (g.T.Tpm.stored c.command.new.tpm) o.stops))
+    (λ (o : Outcome). Safe o.hashed → IfErr c.command.result (λ _. StandsAmong (g.F.Files.held c.command.new.files) (g.T.Tpm.stored c.command.new.tpm) o.stops))
     (line_as (setting_of c.args.setting.now) c.args.words.now c.in-Ok.request m c.in-Ok.ensures.spelled) (c.command.ensures.stops m tells)
 
 pub returns-in-Err-Memory-clause-stops : goal.returns-in-Err-Memory-clause-stops
-returns-in-Err-Memory-clause-stops g c = λ m tells. line_first _ _ _ (setting_of c.args.setting.now) c.args.words.now m tells
+returns-in-Err-Memory-clause-stops g c = λ m tells safe. line_first _ _ _ (setting_of c.args.setting.now) c.args.words.now m tells

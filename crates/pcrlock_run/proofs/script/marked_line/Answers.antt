@@ -22,4 +22,5 @@ pub returns-in-Err-clause-causes : goal.returns-in-Err-clause-causes
 returns-in-Err-clause-causes g c = stops _ _ c.line.result c.in-Err.stop (beside_out _ _ _ _ _ _ _ c.line.result c.line.ensures.causes) c.in-Err.is
 
 pub returns-in-Err-clause-stops : goal.returns-in-Err-clause-stops
-returns-in-Err-clause-stops g c = λ m tells safe. line_stops _ _ m (line (setting_of c.args.setting.now) c.args.words.now m) (c.in-Err.ensures.stops m tells)
+returns-in-Err-clause-stops g c = λ m tells safe. line_stops _ _ m (line (setting_of c.args.setting.now) c.args.words.now m)
+    (c.in-Err.ensures.stops m tells (safe_marked m (line (setting_of c.args.setting.now) c.args.words.now m) safe))

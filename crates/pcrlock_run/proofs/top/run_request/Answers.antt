@@ -15,28 +15,28 @@ pub returns-in-Some-clause-told : goal.returns-in-Some-clause-told
 returns-in-Some-clause-told g c = λ m tells.
     by_equal _ _
     (λ (w : Whole). IfOk c.run_script.result (λ (s : Status). Leaves (g.F.Files.held c.run_script.new.files) (g.T.Tpm.stored c.run_script.new.tpm) (g.E.Entropy.draws c.run_script.new.entropy) (g.O.Sink.written c.args.out.now) (g.O.Sink.written c.run_script.new.out) (g.R.Sink.faults c.args.err.now) (g.R.Sink.written c.args.err.now) (g.R.Sink.faults c.run_script.new.err) (g.R.Sink.written c.run_script.new.err) (number_of s) w))
-    (scripted_request (setting_of c.args.setting.now) c.args.request.now _ m c.in-Some.ensures)
+    (scripted_request (setting_of c.args.setting.now) c.args.request.now _ m c.in-Some.ensures.told)
     (λ free. c.run_script.ensures.told m tells free)
 
 pub returns-in-Some-clause-stops : goal.returns-in-Some-clause-stops
 returns-in-Some-clause-stops g c = λ m tells.
     by_equal _ _
     (λ (w : Whole). IfErr c.run_script.result (λ _. StandsAmong (g.F.Files.held c.run_script.new.files) (g.T.Tpm.stored c.run_script.new.tpm) w.stops))
-    (scripted_request (setting_of c.args.setting.now) c.args.request.now _ m c.in-Some.ensures)
+    (scripted_request (setting_of c.args.setting.now) c.args.request.now _ m c.in-Some.ensures.told)
     (λ free. c.run_script.ensures.stops m tells free)
 
 pub returns-in-None-clause-told : goal.returns-in-None-clause-told
 returns-in-None-clause-told g c = λ m tells.
     by_equal _ _
     (λ (w : Whole). IfOk c.run_alone.result (λ (s : Status). Leaves (g.F.Files.held c.run_alone.new.files) (g.T.Tpm.stored c.run_alone.new.tpm) (g.E.Entropy.draws c.run_alone.new.entropy) (g.O.Sink.written c.args.out.now) (g.O.Sink.written c.run_alone.new.out) (g.R.Sink.faults c.args.err.now) (g.R.Sink.written c.args.err.now) (g.R.Sink.faults c.run_alone.new.err) (g.R.Sink.written c.run_alone.new.err) (number_of s) w))
-    (alone_request (setting_of c.args.setting.now) c.args.request.now m (sym c.in-None.ensures))
+    (alone_request (setting_of c.args.setting.now) c.args.request.now m (sym c.in-None.ensures.told))
     (λ free. c.run_alone.ensures.told m tells free)
 
 pub returns-in-None-clause-stops : goal.returns-in-None-clause-stops
 returns-in-None-clause-stops g c = λ m tells.
     by_equal _ _
     (λ (w : Whole). IfErr c.run_alone.result (λ _. StandsAmong (g.F.Files.held c.run_alone.new.files) (g.T.Tpm.stored c.run_alone.new.tpm) w.stops))
-    (alone_request (setting_of c.args.setting.now) c.args.request.now m (sym c.in-None.ensures))
+    (alone_request (setting_of c.args.setting.now) c.args.request.now m (sym c.in-None.ensures.told))
     (λ free. c.run_alone.ensures.stops m tells free)
 
 pub returns-in-None-clause-done : goal.returns-in-None-clause-done

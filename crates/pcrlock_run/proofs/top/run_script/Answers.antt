@@ -20,18 +20,18 @@ returns-in-Err-clause-causes g c = stops _ _ c.read_script.result c.in-Err.stop 
 pub returns-in-Err-clause-stops : goal.returns-in-Err-clause-stops
 returns-in-Err-clause-stops g c = λ m tells safe.
     script_first _ _ (setting_of c.args.setting.now) c.args.file.now m
-    (stands _ _ _ m (record { files = c.read_script.ensures.same ∙ tells.files; state = tells.state; draws = tells.draws; rules = tells.rules }))
+    (stands _ _ _ m (record { files = c.read_script.ensures.same ∙ tells.files; state = tells.state; draws = tells.draws }))
 
 pub returns-in-Ok-Ok-clause-told : goal.returns-in-Ok-Ok-clause-told
 returns-in-Ok-Ok-clause-told g c = λ m tells.
     by_equal _ _
     (λ (w : Whole). IfOk c.script.result (λ (s : Status). Leaves (g.F.Files.held c.script.new.files) (g.T.Tpm.stored c.script.new.tpm) (g.E.Entropy.draws c.script.new.entropy) (g.O.Sink.written c.args.out.now) (g.O.Sink.written c.script.new.out) (g.R.Sink.faults c.args.err.now) (g.R.Sink.written c.args.err.now) (g.R.Sink.faults c.script.new.err) (g.R.Sink.written c.script.new.err) (number_of s) w))
     (script_as (setting_of c.args.setting.now) c.args.file.now c.as_str.result.now m (text_read c.in-Ok-Ok.field-0) (c.in-Ok-Ok.ensures.told m.files tells.files) (ap text_read c.in-Ok-Ok.field-0-is ∙ ap Ok (sym c.as_str.ensures.value)))
-    (λ free. c.script.ensures.told m (record { files = c.read_script.ensures.same ∙ tells.files; state = tells.state; draws = tells.draws; rules = tells.rules }) free)
+    (λ free. c.script.ensures.told m (record { files = c.read_script.ensures.same ∙ tells.files; state = tells.state; draws = tells.draws }) free)
 
 pub returns-in-Ok-Ok-clause-stops : goal.returns-in-Ok-Ok-clause-stops
 returns-in-Ok-Ok-clause-stops g c = λ m tells.
     by_equal _ _
     (λ (w : Whole). IfErr c.script.result (λ _. StandsAmong (g.F.Files.held c.script.new.files) (g.T.Tpm.stored c.script.new.tpm) w.stops))
     (script_as (setting_of c.args.setting.now) c.args.file.now c.as_str.result.now m (text_read c.in-Ok-Ok.field-0) (c.in-Ok-Ok.ensures.told m.files tells.files) (ap text_read c.in-Ok-Ok.field-0-is ∙ ap Ok (sym c.as_str.ensures.value)))
-    (λ free. c.script.ensures.stops m (record { files = c.read_script.ensures.same ∙ tells.files; state = tells.state; draws = tells.draws; rules = tells.rules }) free)
+    (λ free. c.script.ensures.stops m (record { files = c.read_script.ensures.same ∙ tells.files; state = tells.state; draws = tells.draws }) free)
