@@ -1,15 +1,18 @@
 //! The program `pcrlock`: the words of the process are run over the files of the system, its random
 //! words and its standard output and error, and the status is the exit status of the process. The TPM
-//! is kept in the state file, whose path is the first word.
+//! is kept in the state file, whose path is the first word. One process at a time works on the state
+//! files of a folder, and what the words name to be written or removed is never the state file.
 #![tactic(auto)]
 
 ghost use Rattle.std.specs.Prelude.{◌≡◌, IfOk};
 ghost use Rattle.pcrlock_cli.specs.declared.Refusal.TheVariants.{Memory as NoMemory};
 ghost use Rattle.pcrlock_cli.specs.Process.{refusal_line, refusal_status, state_path_of};
 
+use pcrlock_files::{ApartFiles, StateFiles, lock_folder_of};
 use pcrlock_run::run;
-use pl_base::{List, Memory, Name, RealEntropy, RealFiles, RealSink, Sink};
+use pl_base::{Files, List, Memory, Name, RealEntropy, RealFiles, RealSink, Sink, sync_folder_of};
 use std::alloc::Global;
+use std::fs::File;
 use std::process::ExitCode;
 use std::{env, io};
 use tpm_state::FileTpm;
@@ -21,6 +24,8 @@ enum Refusal {
     BadWords,
     /// Memory ran out.
     Memory,
+    /// The system couldn't store where the TPM's file is, so a power cut may undo its changes.
+    Unstored,
 }
 
 impl From<Memory> for Refusal {
@@ -39,6 +44,7 @@ impl Refusal {
         match self {
             Refusal::BadWords => b"bad words\n",
             Refusal::Memory => b"no memory\n",
+            Refusal::Unstored => b"tpm fault\n",
         }
     }
 
@@ -49,6 +55,7 @@ impl Refusal {
         match self {
             Refusal::BadWords => 2,
             Refusal::Memory => 6,
+            Refusal::Unstored => 5,
         }
     }
 }
@@ -84,7 +91,24 @@ fn state_path(alloc: Global, words: &[Name]) -> Result<Name, Memory>
     }
 }
 
-/// Runs the words of the process, and gives its exit status.
+/// Takes the lock on the folder of the state file, where the words name one. The file that is given
+/// holds it as long as it is there.
+fn lock(rt: &HostRuntime, path: &Name) -> Option<File> {
+    if path.text().is_empty() {
+        return None;
+    }
+    lock_folder_of(rt, path.text())
+}
+
+/// Has the system store what the TPM's file became.
+fn store<F: Files>(rt: &HostRuntime, path: &Name, state: &StateFiles<F>) -> Result<(), Refusal> {
+    if state.is_changed() && sync_folder_of(rt, path.text()).is_err() {
+        return Err(Refusal::Unstored);
+    }
+    Ok(())
+}
+
+/// Runs the words of the process under the lock, and gives its exit status.
 fn run_process<O: Sink, R: Sink>(
     rt: &HostRuntime,
     out: &mut O,
@@ -93,10 +117,12 @@ fn run_process<O: Sink, R: Sink>(
     let alloc = rt.alloc();
     let words = words(rt)?;
     let path = state_path(alloc, words.as_slice())?;
-    let mut tpm = FileTpm::new(RealFiles::new(rt), path);
-    let mut files = RealFiles::new(rt);
+    let lock = lock(rt, &path); // until all is stored
+    let state = StateFiles::new(RealFiles::new(rt), lock.is_some());
+    let mut tpm = FileTpm::new(state, path.copy(alloc)?);
+    let mut files = ApartFiles::new(alloc, rt, RealFiles::new(rt), path.copy(alloc)?)?;
     let mut entropy = RealEntropy::new(rt);
-    Ok(run(
+    let status = run(
         alloc,
         words.as_slice(),
         &mut files,
@@ -104,7 +130,10 @@ fn run_process<O: Sink, R: Sink>(
         &mut entropy,
         out,
         err,
-    ))
+    );
+    store(rt, &path, &tpm.into_files())?;
+    drop(lock);
+    Ok(status)
 }
 
 /// Tells a refusal, and gives the exit status.

@@ -10,3 +10,7 @@ returns-in-BadWords c = ap refusal_line (sym c.in-BadWords.is)
 pub returns-in-Memory : goal.returns-in-Memory
 unfolding texts.answer_text texts.answer_words
 returns-in-Memory c = ap refusal_line (sym c.in-Memory.is)
+
+pub returns-in-Unstored : goal.returns-in-Unstored
+unfolding texts.answer_text texts.answer_words
+returns-in-Unstored c = ap refusal_line (sym c.in-Unstored.is)
