@@ -1,10 +1,10 @@
 """What each command prints and leaves, over a map of files and a TPM; words and files are taken to be good ones."""
 
-import struct
-
+import kept
 import measured
+import proofs
 import tpm as chip
-from measured import BANKS, KINDS, NAMES, NO_ACTION, NUMBERS, Refusal, SIZES
+from measured import BANKS, KINDS, NO_ACTION, Refusal, SIZES
 from tpm import Refused
 
 FIRMWARE_LOG = "/sys/kernel/security/tpm0/binary_bios_measurements"
@@ -29,16 +29,51 @@ def options(words):
     return told
 
 
-class Machine:
-    def __init__(self, files, policy="pcrlock.policy", index=0x01800100):
-        self.files, self.tpm, self.policy, self.index = files, chip.Tpm(), policy, index
+POLICY, INDEX = "pcrlock.policy", 0x01800100
+FAULT = 5
 
-    # ---- inputs
+
+class NotReckoned(Exception):
+    """A random word is drawn, which the model has none of."""
+
+
+class Machine:
+    """What lies where the program runs; `stored` is the TPM, or what is answered of a state file that is none."""
+
+    def __init__(self, files, stored=None):
+        self.files, self.stored, self.policy, self.index = files, stored or chip.Tpm(), POLICY, INDEX
+
+    @property
+    def tpm(self):
+        if isinstance(self.stored, Refusal):
+            raise self.stored
+        return self.stored
+
+    def draw(self):
+        """A random word of 32 bytes."""
+        raise NotReckoned
+
+    # ---- files
+
+    def found(self, path):
+        """A file's bytes; None where there is none."""
+        below = [path[:at] for at, letter in enumerate(path) if letter == "/"]
+        if any(it.startswith(f"{path}/") for it in self.files) or any(it in self.files for it in below):
+            raise Refusal("read fault", FAULT)
+        return self.files.get(path)
 
     def file(self, path):
-        if path not in self.files:
+        text = self.found(path)
+        if text is None:
             raise Refusal(f"no such file: {path}", 3)
-        return self.files[path]
+        return text
+
+    def put(self, path, text):
+        """Writes a file; it is written beside its place first, where no folder may stand."""
+        if any(it.startswith((f"{path}/", f"{path}.new/")) for it in self.files):
+            raise Refusal("write fault", FAULT)
+        self.files.pop(f"{path}.new", None)
+        self.files[path] = text
 
     def logs(self, told):
         """The combined log as (pcr, kind, digests), the locality, and the passed-over texts."""
@@ -64,10 +99,8 @@ class Machine:
         log, locality, _ = self.logs(told)
         tree = self.tree(told)
         bank = told.get("--bank", "sha256")
-        window = (told.get("--location", "760-:940-").split(":") * 2)[:2]
-        asked = [int(it) for it in told.get("--pcr", PCRS).split(",")]
         now = self.present(bank)
-        rows, left = measured.protect(tree, window, asked, bank, log, locality, now, "--joint" in told)
+        rows, left = measured.protect(tree, window_of(told), asked_in(told), bank, log, locality, now, "--joint" in told)
         return bank, rows, left
 
     # ---- what looks
@@ -116,12 +149,12 @@ class Machine:
         log, locality, _ = self.logs(told)
         self.tpm.restart(int(told.get("--locality", locality)), told.get("--banks", ",".join(BANKS)).split(","))
         for pcr, _, digests in log:
-            self.tpm.extend(pcr, digests)
+            ask(self.tpm.extend, pcr, digests)
         return f"records {len(log)}\n"
 
     def tpm_extend(self, told):
         data = told["--text"].encode() if "--text" in told else bytes.fromhex(told["--hex"])
-        self.tpm.extend(int(told["--pcr"]), {bank: measured.hash_in(bank, data) for bank in BANKS})
+        ask(self.tpm.extend, int(told["--pcr"]), {bank: measured.hash_in(bank, data) for bank in BANKS})
         return ""
 
     def tpm_exec(self, told):
@@ -137,7 +170,7 @@ class Machine:
             records, _ = measured.read_firmware_log(self.file(path))
         early, late = measured.lock_firmware(records, pcrs)
         for path, part in zip(lock_paths(told, name), (early, late)):
-            self.files[path] = measured.component_text(part)
+            self.put(path, measured.component_text(part))
         return f"locked {len(early)} {len(late)}\n"
 
     def unlock(self, told, name):
@@ -146,45 +179,64 @@ class Machine:
 
     def lock_raw(self, told):
         data = self.file(told["--file"])
-        self.files[told["--output"]] = measured.component_text([(int(told["--pcr"]), {bank: measured.hash_in(bank, data) for bank in BANKS})])
+        digests = {bank: measured.hash_in(bank, data) for bank in BANKS}
+        self.put(told["--output"], measured.component_text([(int(told["--pcr"]), digests)]))
         return "locked 1\n"
+
+    # ---- proofs of what is foreseen
+
+    def prove(self, told):
+        if told["--output"] == self.policy:
+            raise Refusal("bad words", 2)
+        tree, bank, locality = self.tree(told), told.get("--bank", "sha256"), int(told.get("--locality", 0))
+        asked = asked_in(told)
+        masks = [asked] if "--joint" in told else [[pcr] for pcr in asked]
+        found = [(pcrs, *it) for pcrs in masks for it in proofs.prove(tree, window_of(told), pcrs, bank, locality)]
+        self.put(told["--output"], proofs.write(bank, locality, found))
+        return f"proved {len(found)}\n"
+
+    def check_proof(self, told):
+        bank, locality, found = proofs.read(told["--proof"], self.file(told["--proof"]))
+        proofs.check(self.tree(told), window_of(told), bank, locality, found)
+        return f"checked {len(found)}\n"
 
     # ---- keys and policies
 
+    def policy_found(self):
+        text = self.found(self.policy)
+        return None if text is None else kept.read_kept(self.policy, text, kept.read_policy, "policy", 4_194_304)
+
     def read_policy(self):
-        if self.policy not in self.files:
+        policy = self.policy_found()
+        if policy is None:
             raise Refusal(f"no policy: {self.policy}", 7)
-        return self.files[self.policy]
+        return policy
+
+    def read_token(self, path):
+        text = self.found(path)
+        if text is None:
+            raise Refusal(f"no token: {path}", 7)
+        return kept.read_kept(path, text, kept.read_token, "token", 256)
 
     def enroll(self, told):
+        literal = None
         if "--literal" in told:
             bank, pcr = told.get("--bank", "sha256"), int(told["--literal"])
             hash = "sha384" if bank in ("sha384", "sha512") else "sha256"
             value = self.present(bank)[pcr]
+            literal = hash, bank, pcr, value
             policy = chip.policy_pcr(hash, bytes(SIZES[hash]), bank, [pcr], [value])
-            kind = struct.pack(">BHB", 2 if hash == "sha384" else 1, NUMBERS[bank], pcr) + value
         else:
             held = self.read_policy()
-            policy = chip.policy_authorize_nv("sha256", chip.index_name(held["handle"], chip.WRITTEN, held["policy"]))
-            kind = b"\0"
-        handle = self.seal(policy, bytes.fromhex(told["--key"]))
-        self.files[told["--token"]] = b"PLTOK\0\0\1" + struct.pack(">I", handle) + kind
+            policy = bound_to(held["handle"], held["policy"])
+        seal = self.tpm.seal
+        handle = ask(seal, policy, bytes.fromhex(told["--key"]) if "--key" in told else self.draw())
+        self.put(told["--token"], kept.write_token(handle, literal))
         return f"enrolled {handle:08x}\n"
 
-    def seal(self, policy, secret):
-        try:
-            return self.tpm.seal(policy, secret)
-        except Refused as refusal:
-            raise Refusal({"objects-full": "limit: objects 65", "handles-end": "limit: handles 8388608"}[refusal.name], 4)
-
     def unseal(self, told):
-        if told["--token"] not in self.files:
-            raise Refusal(f"no token: {told['--token']}", 7)
-        handle, kind = struct.unpack_from(">IB", self.files[told["--token"]], 8)
-        if kind:
-            secret = self.open_literal("sha384" if kind == 2 else "sha256", self.files[told["--token"]][13:], handle)
-        else:
-            secret = self.open_bound(self.read_policy(), handle)
+        handle, literal = self.read_token(told["--token"])
+        secret = self.open_literal(*literal, handle) if literal else self.open_bound(self.read_policy(), handle)
         return f"key {secret.hex()}\n"
 
     def can_start(self):
@@ -202,9 +254,7 @@ class Machine:
             raise Refusal(f"wrong binding: session {policy.hex()}, object {held.hex()}", 7)
         return secret
 
-    def open_literal(self, hash, literal, handle):
-        number, pcr = struct.unpack_from(">HB", literal)
-        bank, value = NAMES[number], literal[3:]
+    def open_literal(self, hash, bank, pcr, value, handle):
         self.can_start()
         now = self.present(bank)[pcr]
         if now != value:
@@ -219,7 +269,7 @@ class Machine:
         content = self.tpm.indices[index]["value"]
         if content is None:
             raise Refusal(f"unwritten index: {index:08x}", 7)
-        named = [table for table in policy["tables"] if content == b"\0\x0b" + chip.root(table)]
+        named = named_by(content, policy["tables"])
         if not named:
             raise Refusal(f"outdated: index {content[2:].hex()}, file {chip.root(policy['tables'][-1]).hex()}", 7)
         bank, rows = named[-1]
@@ -235,37 +285,40 @@ class Machine:
         return self.open_object(chip.policy_authorize_nv("sha256", self.tpm.name(index)), handle)
 
     def make_policy(self, told):
-        old = self.files.get(self.policy)
+        old = self.policy_found()
         bank, rows, left = self.protection(told)
         text = rows_text(rows, left, "--joint" in told, lambda pcr, states: [f"{pcr} {len(states)}"], counts=True)
         if not rows:
             raise Refusal("nothing protected", 7)
         table = (bank, rows)
-        handle = old["handle"] if old else int(told["--index"], 16) if "--index" in told else self.index
+        handle = old["handle"] if old else self.index
         pin = bytes.fromhex(told["--pin"]) if "--pin" in told else None
         held = self.tpm.indices.get(handle)
         if held and held["value"] is not None:
             return text + self.update(old, handle, held, table, pin, "--force" in told)
         return text + self.make(old, handle, held, table, pin)
 
-    def state(self, handle, pin, object, tables):
-        self.files[self.policy] = {"handle": handle, "policy": chip.pin_policy(pin), "object": object, "tables": tables}
+    def state_policy(self, handle, pin, object, tables):
+        policy = {"handle": handle, "policy": chip.pin_policy(pin), "object": object, "tables": tables}
+        self.put(self.policy, kept.write_policy(policy))
 
     def seal_pin(self, handle, pin):
-        return self.seal(chip.policy_authorize_nv("sha256", chip.index_name(handle, chip.WRITTEN, chip.pin_policy(pin))), pin)
+        return ask(self.tpm.seal, bound_to(handle, chip.pin_policy(pin)), pin)
 
     def make(self, old, handle, held, table, pin):
+        told = ""
+        if pin is None:
+            pin = self.draw()
+            told = f"pin {pin.hex()}\n"
         if held:
             self.tpm.nv_undefine(handle)
-        if len(self.tpm.indices) == 16:
-            raise Refusal("limit: indices 17", 4)
-        self.tpm.nv_define(handle, chip.DEFINED, chip.pin_policy(pin), 34)
+        ask(self.tpm.nv_define, handle, chip.DEFINED, chip.pin_policy(pin), 34)
         object = self.seal_pin(handle, pin)
-        self.state(handle, pin, object, [table])
-        self.tpm.nv_write(handle, pin, b"\0\x0b" + chip.root(table))
+        self.state_policy(handle, pin, object, [table])
+        ask(self.tpm.nv_write, handle, pin, content_for(table))
         if old:
             self.tpm.objects.pop(old["object"], None)
-        return "made\n"
+        return f"{told}made\n"
 
     def update(self, old, handle, held, table, pin, force):
         own = old is not None and old["policy"] == held["policy"]
@@ -274,21 +327,26 @@ class Machine:
             raise Refusal(f"index taken: {handle:08x} {self.tpm.name(handle).hex()}", 7)
         if pin and given != held["policy"]:
             raise Refusal(f"pin refused: given {given.hex()}, index {held['policy'].hex()}", 7)
-        content = b"\0\x0b" + chip.root(table)
-        if own and table in old["tables"] and held["value"] == content and not force:
+        if own and table in old["tables"] and held["value"] == content_for(table) and not force:
             return "unchanged\n"
-        object = old["object"] if old else None
-        if pin is None:
-            pin = self.open_bound(old, object)
-            if len(pin) != 32 or chip.pin_policy(pin) != held["policy"]:
-                raise Refusal(f"malformed: {self.policy}: 44", 3)
-            self.state(handle, pin, object, [table])
-            self.tpm.nv_write(handle, pin, content)
+        if pin:
+            object = self.seal_pin(handle, pin)
+            self.put_in_force(old, handle, held, table, pin, object)
+            if old:
+                self.tpm.objects.pop(old["object"], None)
             return "updated\n"
-        self.state(handle, pin, self.seal_pin(handle, pin), [table])
-        self.tpm.nv_write(handle, pin, content)
-        self.tpm.objects.pop(object, None)
+        pin = self.open_bound(old, old["object"])
+        if len(pin) != 32 or chip.pin_policy(pin) != held["policy"]:
+            raise Refusal(f"malformed: {self.policy}: 44", 3)
+        self.put_in_force(old, handle, held, table, pin, old["object"])
         return "updated\n"
+
+    def put_in_force(self, old, handle, held, table, pin, object):
+        """Writes the policy file with the table that the index names beside the new one, the index, and the file again."""
+        standing = named_by(held["value"], old["tables"])[-1:] if old else []
+        self.state_policy(handle, pin, object, [*standing, table])
+        ask(self.tpm.nv_write, handle, pin, content_for(table))
+        self.state_policy(handle, pin, object, [table])
 
     def remove_policy(self, told):
         policy = self.read_policy()
@@ -298,6 +356,44 @@ class Machine:
         self.tpm.objects.pop(policy["object"], None)
         del self.files[self.policy]
         return "removed\n"
+
+
+ANSWERS = {
+    "objects-full": "limit: objects 65",
+    "handles-end": "limit: handles 8388608",
+    "table-full": "limit: indices 17",
+    "counter-end update": "counter at its end: update",
+    "counter-end writes": "counter at its end: writes",
+}
+
+
+def ask(command, *given):
+    """What the TPM answers to a command that seals, defines, writes or extends; a refusal of it is the answer."""
+    try:
+        return command(*given)
+    except Refused as refusal:
+        raise Refusal(ANSWERS[refusal.text()], 4) from refusal
+
+
+def bound_to(handle, policy):
+    """The policy of an object that an index of this policy opens once it is written."""
+    return chip.policy_authorize_nv("sha256", chip.index_name(handle, chip.WRITTEN, policy))
+
+
+def content_for(table):
+    return b"\0\x0b" + chip.root(table)
+
+
+def named_by(content, tables):
+    return [table for table in tables if content_for(table) == content]
+
+
+def window_of(told):
+    return (told.get("--location", "760-:940-").split(":") * 2)[:2]
+
+
+def asked_in(told):
+    return sorted(int(it) for it in told.get("--pcr", PCRS).split(","))
 
 
 def rows_text(rows, left, joint, lines, counts=False):
@@ -333,6 +429,8 @@ COMMANDS = {
     "unlock-firmware-code": lambda machine, told: machine.unlock(told, "code"),
     "unlock-firmware-config": lambda machine, told: machine.unlock(told, "config"),
     "lock-raw": Machine.lock_raw,
+    "prove": Machine.prove,
+    "check-proof": Machine.check_proof,
     "enroll": Machine.enroll,
     "unseal": Machine.unseal,
     "make-policy": Machine.make_policy,
@@ -343,18 +441,57 @@ COMMANDS = {
 def run_line(machine, words):
     """What a command prints, its line on standard error, and its status."""
     try:
-        return COMMANDS[words[0]](machine, options(words[1:])), "", 0
+        told = options(words[1:])
+        if machine.policy in (told.get("--token"), told.get("--output")):
+            raise Refusal("bad words", 2)
+        return COMMANDS[words[0]](machine, told), "", 0
+    except Refusal as refusal:
+        return "", f"{refusal.line}\n", refusal.status
+
+
+def run_lines(machine, text):
+    """Each line of a script, and what it prints, its line on standard error and its status; None where it is passed over.
+
+    A line with a fault ends the script.
+    """
+    for line in text.removesuffix("\n").split("\n"):
+        words = line.split()
+        ran = None if not words or words[0].startswith("#") else run_line(machine, words)
+        yield line, ran
+        if ran and ran[2] == FAULT:
+            return
+
+
+def mark(status):
+    return "" if status == FAULT else f"= {status}\n"
+
+
+def run_call(machine, words):
+    """What a call of the program prints, its lines on standard error, and its status."""
+    told = options(words[1:])
+    machine.policy, machine.index = told.get("--policy", POLICY), int(told["--index"], 16) if "--index" in told else INDEX
+    if words[0] != "script":
+        return run_line(machine, words)
+    try:
+        return run_script(machine, machine.file(told["--file"]).decode())
     except Refusal as refusal:
         return "", f"{refusal.line}\n", refusal.status
 
 
 def run_script(machine, text):
-    out, err, status = "", "", 0
-    for line in text.split("\n"):
-        words = line.split()
-        if not words or words[0].startswith("#"):
-            continue
-        printed, told, status = run_line(machine, words)
-        out += f"{printed}= {status}\n"
-        err += told
-    return out, err, status
+    """What a script prints, its lines on standard error, and its status."""
+    ran = [it for _, it in run_lines(machine, text) if it]
+    out = "".join(f"{printed}{mark(status)}" for printed, _, status in ran)
+    return out, "".join(told for _, told, _ in ran), ran[-1][2] if ran else 0
+
+
+def walk(machine, text):
+    """A script's lines with what is said to each of them, as a walk of the examples prints it, and its status."""
+    walked, status = "", 0
+    for line, ran in run_lines(machine, text):
+        if ran is None:
+            walked += f"{line}\n"
+        else:
+            printed, told, status = ran
+            walked += f"$ {line}\n{printed}{told}{mark(status)}"
+    return walked, status

@@ -2,12 +2,12 @@
 
 from measured import SEPARATOR, component_text, hash_in, write_firmware_log, write_userspace_log
 
-BANKS = ("sha256", "sha384")
+BANKS, ALL_BANKS = ("sha256", "sha384"), ("sha1", "sha256", "sha384", "sha512")
 CRTM, BLOB, VARIABLE, BOOT_ORDER, DRIVER, APPLICATION = 8, 0x80000008, 0x80000001, 0x80000002, 0x80000004, 0x80000003
 
 
-def digests(data):
-    return {bank: hash_in(bank, data) for bank in BANKS}
+def digests(data, banks=BANKS):
+    return {bank: hash_in(bank, data) for bank in banks}
 
 
 def measured_as(pcr, kind, text):
@@ -91,12 +91,123 @@ def kernel_folder(name, kernels):
     return {f"{name}/{path}": text for path, text in files.items()}
 
 
-UPDATE = {
-    **{f"boot-{kernel}.firmware.log": kernel_log(kernel) for kernel in ("6.12", "6.13", "6.66")},
-    **{f"boot-{kernel}.userspace.log": booted_log(kernel) for kernel in ("6.12", "6.13", "6.66")},
+INDEX, PCRS, OTHER_PIN = "01800100", "0,4,7,11", "03" * 32
+
+
+def stranger(session, object):
+    """What anyone may ask the TPM, in its next session: values of PCRs, the index, and an object without its policy."""
+    two = ",".join(hash_in("sha256", data).hex() for data in (b"abc", bytes(4)))
+    lines = [
+        "pcr-read sha256 4",
+        f"nv-read {INDEX}",
+        "start-session",
+        f"policy-pcr {session} sha256 {PCRS}",
+        f"policy-authorize-nv {session} {INDEX}",
+        f"policy-or {session} {two}",
+        f"unseal {session} {object}",
+        f"flush-session {session}",
+        f"nv-write {INDEX} {OTHER_PIN} 000b{'00' * 32}",
+    ]
+    return "".join(f"{line}\n" for line in lines).encode()
+
+
+KERNELS = {
+    **{f"boot-{kernel}/firmware.log": kernel_log(kernel) for kernel in ("6.12", "6.13", "6.66")},
+    **{f"boot-{kernel}/userspace.log": booted_log(kernel) for kernel in ("6.12", "6.13", "6.66")},
     **kernel_folder("old", ["6.12"]),
     **kernel_folder("both", ["6.12", "6.13"]),
     **kernel_folder("new", ["6.13"]),
+    **kernel_folder("forged", ["6.66"]),
+    "stranger.commands": stranger("03000008", "81000001"),
+    "stranger-later.commands": stranger("03000012", "81000003"),
 }
 
-MACHINES = {"locks": LOCKS, "update": UPDATE}
+# ---- a machine of a usual size: 180 firmware records in four banks, 40 userspace records, 30 components
+
+# What each component measures: the PCRs with the number of records of each, and the variants.
+USUAL = {
+    "200-firmware-code": ({0: 14, 2: 9}, 1),
+    "220-firmware-config": ({1: 29, 3: 4}, 1),
+    "230-secure-boot-policy": ({7: 6}, 1),
+    "240-graphics-card": ({2: 5}, 1),
+    "300-separator": ({pcr: 1 for pcr in range(8)}, 1),
+    "320-boot-order": ({1: 22}, 1),
+    "330-network-card": ({2: 8, 3: 7}, 1),
+    "340-storage": ({2: 10, 3: 5}, 1),
+    "400-secure-boot-authority": ({7: 8}, 1),
+    "420-partitions": ({5: 12}, 1),
+    "610-boot-loader": ({4: 2}, 2),
+    "620-boot-loader-config": ({5: 6, 12: 1}, 1),
+    "630-command-line": ({12: 2}, 1),
+    "640-credentials": ({12: 3, 13: 5}, 1),
+    "645-extensions": ({13: 5}, 1),
+    "650-kernel": ({4: 5, 11: 12}, 3),
+    "660-initrd": ({9: 2, 11: 1}, 1),
+    "700-exit-boot-services": ({5: 10}, 1),
+    "710-microcode": ({0: 4}, 1),
+    "720-machine-owner": ({14: 3}, 2),
+    "740-tables": ({1: 4}, 1),
+    "750-enter-initrd": ({11: 1}, 1),
+    "760-volume-key": ({15: 1}, 1),
+    "800-leave-initrd": ({11: 1}, 1),
+    "820-machine-id": ({15: 1}, 1),
+    "830-root-file-system": ({15: 2}, 1),
+    "850-sysinit": ({11: 1}, 1),
+    "900-ready": ({11: 1}, 1),
+    "950-shutdown": ({11: 1}, 1),
+    "990-final": ({11: 1}, 1),
+}
+BOOTED, FIRST_OF_USER, EVENT = "900-ready", 11, 341
+
+
+# Default options, but for the places of logs and components.
+USUAL_SCRIPT = b"""tpm-boot --firmware-log first.firmware.log --userspace-log first.userspace.log
+log --firmware-log first.firmware.log --userspace-log first.userspace.log --components components
+predict --firmware-log first.firmware.log --userspace-log first.userspace.log --components components
+make-policy --firmware-log first.firmware.log --userspace-log first.userspace.log --components components --pin 0101010101010101010101010101010101010101010101010101010101010101
+enroll --token disk.token --key 000102030405060708090a0b0c0d0e0f101112131415161718191a1b1c1d1e1f
+unseal --token disk.token
+tpm-boot --firmware-log next.firmware.log --userspace-log next.userspace.log
+unseal --token disk.token
+make-policy --firmware-log next.firmware.log --userspace-log next.userspace.log --components components
+make-policy --firmware-log next.firmware.log --userspace-log next.userspace.log --components components --joint
+unseal --token disk.token
+tpm-boot --firmware-log other.firmware.log --userspace-log other.userspace.log
+unseal --token disk.token
+tpm-boot --firmware-log first.firmware.log --userspace-log first.userspace.log
+unseal --token disk.token
+"""
+
+
+def usual_records(name, variant):
+    pcrs, _ = USUAL[name]
+    return [(pcr, f"{name} {variant} {pcr} {number}") for pcr, count in pcrs.items() for number in range(count)]
+
+
+def usual_boot(variants):
+    """The records of a boot in which some components have another variant than their first."""
+    booted = [it for name in sorted(USUAL) if name <= BOOTED for it in usual_records(name, variants.get(name, 0))]
+    events = ((pcr, APPLICATION if pcr == 4 else SEPARATOR if text.startswith("300") else BLOB, text) for pcr, text in booted)
+    firmware = [(pcr, kind, digests(text.encode(), ALL_BANKS), (f"{text}\n" * 20).encode()[:EVENT]) for pcr, kind, text in events if pcr < FIRST_OF_USER]
+    user = [(pcr, digests(text.encode(), ALL_BANKS)) for pcr, text in booted if pcr >= FIRST_OF_USER]
+    return write_firmware_log(firmware, ALL_BANKS), write_userspace_log(user)
+
+
+def usual_folder(name):
+    """A component's files: one, or a folder of its variants."""
+    texts = [component_text([(pcr, digests(text.encode(), ALL_BANKS)) for pcr, text in usual_records(name, variant)]) for variant in range(USUAL[name][1])]
+    if len(texts) == 1:
+        return {f"components/{name}.pcrlock": texts[0]}
+    return {f"components/{name}.pcrlock.d/{variant}.pcrlock": text for variant, text in enumerate(texts)}
+
+
+def usual_machine():
+    files = {}
+    for boot, variants in (("first", {}), ("next", {"650-kernel": 2, "610-boot-loader": 1}), ("other", {"650-kernel": 7})):
+        files[f"{boot}.firmware.log"], files[f"{boot}.userspace.log"] = usual_boot(variants)
+    for name in USUAL:
+        files.update(usual_folder(name))
+    return {**files, "script": USUAL_SCRIPT}
+
+
+MACHINES = {"locks": LOCKS, "kernels": KERNELS, "usual": usual_machine()}

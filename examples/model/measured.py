@@ -162,10 +162,17 @@ def read_tree(files, folders):
     for name in sorted(set(own) | set(variants), key=str.encode):
         taken = [("-", own[name])] if name in own else []
         taken += [(file[: -len(".pcrlock")], path) for file, path in sorted(variants.get(name, {}).items(), key=lambda it: it[0].encode())]
-        found = [(variant, read_records(files[path])) for variant, path in taken if files[path]]
+        found = [(variant, read_variant(path, files[path])) for variant, path in taken if files[path]]
         if found:
             tree.append((name, found))
     return tree
+
+
+def read_variant(path, text):
+    try:
+        return read_records(text)
+    except ValueError as found:
+        raise Refusal(f"malformed: {path}: json", 3) from found
 
 
 def digests_of(records, pcr, bank):
@@ -257,10 +264,11 @@ def protect(tree, window, asked, bank, log, locality, now, joint):
             left[pcr] = "value-differs"
             continue
         cause = explained(components, pcr, bank, measured)
+        states = None if joint else foreseen(tree, window, (pcr,), bank, locality)
         if cause:
             left[pcr] = cause
         else:
-            rows.append(((pcr,), None if joint else foreseen(tree, window, (pcr,), bank, locality)))
+            rows.append(((pcr,), states))
     if joint and rows:
         pcrs = tuple(pcr for (pcr,), _ in rows)
         rows = [(pcrs, foreseen(tree, window, pcrs, bank, locality))]

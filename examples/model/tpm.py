@@ -5,6 +5,7 @@ import struct
 from measured import BANKS, NUMBERS, SIZES, extended, hash_in, start
 
 DEFINED, WRITTEN = 0x02060008, 0x22060008
+LAST = 0xFFFFFFFF
 
 
 class Refused(Exception):
@@ -106,6 +107,8 @@ class Tpm:
     def extend(self, pcr, digests):
         if pcr > 23:
             raise Refused("value")
+        if self.updates == LAST:
+            raise Refused("counter-end", "update")
         for bank in self.pcrs:
             if bank in digests:
                 self.pcrs[bank][pcr] = extended(bank, self.pcrs[bank][pcr], digests[bank])
@@ -127,7 +130,7 @@ class Tpm:
             raise Refused("handles-end")
         handle = 0x03000000 + self.next_session
         self.next_session += 1
-        self.sessions[handle] = {"hash": hash, "digest": bytes(SIZES[hash]), "noted": None, "entries": 0}
+        self.sessions[handle] = {"hash": hash, "digest": bytes(SIZES[hash]), "noted": None, "entries": []}
         return handle
 
     def session(self, handle):
@@ -139,11 +142,11 @@ class Tpm:
         if session["noted"] not in (None, self.updates):
             raise Refused("pcr-changed", str(session["noted"]), str(self.updates))
 
-    def enter(self, session, digest):
-        if session["entries"] == 128:
+    def enter(self, session, digest, *entry):
+        if len(session["entries"]) == 128:
             raise Refused("trail-full")
         session["digest"] = digest
-        session["entries"] += 1
+        session["entries"].append(entry)
 
     def policy_pcr(self, handle, bank, pcrs):
         session = self.session(handle)
@@ -151,7 +154,8 @@ class Tpm:
             raise Refused("bank-absent", bank)
         self.changed(session)
         values = [self.pcrs[bank][pcr] for pcr in sorted(pcrs)]
-        self.enter(session, policy_pcr(session["hash"], session["digest"], bank, pcrs, values))
+        digest = policy_pcr(session["hash"], session["digest"], bank, pcrs, values)
+        self.enter(session, digest, "pcr", bank, pcrs, values_digest(session["hash"], values))
         session["noted"] = self.updates
 
     def policy_or(self, handle, digests):
@@ -159,7 +163,7 @@ class Tpm:
         fits = all(len(digest) == SIZES[session["hash"]] for digest in digests)
         if len(digests) < 2 or not fits or session["digest"] not in digests:
             raise Refused("value")
-        self.enter(session, policy_or(session["hash"], digests))
+        self.enter(session, policy_or(session["hash"], digests), "or", digests)
 
     def policy_authorize_nv(self, handle, index):
         session = self.session(handle)
@@ -168,7 +172,8 @@ class Tpm:
             raise Refused("uninitialized")
         if held["value"] != struct.pack(">H", NUMBERS[session["hash"]]) + session["digest"]:
             raise Refused("value")
-        self.enter(session, policy_authorize_nv(session["hash"], self.name(index)))
+        name = self.name(index)
+        self.enter(session, policy_authorize_nv(session["hash"], name), "authorize-nv", name, session["digest"], held["number"])
 
     def policy_get_digest(self, handle):
         return self.session(handle)["digest"]
@@ -214,6 +219,8 @@ class Tpm:
             raise Refused("pin-refused", given.hex(), held["policy"].hex())
         if len(value) != 34:
             raise Refused("size")
+        if self.writes == LAST:
+            raise Refused("counter-end", "writes")
         self.writes += 1
         held.update(value=value, number=self.writes)
 
