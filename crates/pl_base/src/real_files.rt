@@ -151,17 +151,33 @@ fn replace_file<R: rt::Files>(
     Err(ReplaceError::Failed)
 }
 
-/// Makes the folders that the path lacks, and a new file beside it with these bytes.
+/// Makes a new file beside the path with these bytes.
 fn write_new<R: rt::Files>(files: &R, path: &str, beside: &str, bytes: &[u8]) -> io::Result<()> {
-    make_folder_of(files, path)?;
-    remove_leftover(files, beside)?;
-    let mut file = OpenOptions::new()
+    let mut file = match create(files, beside) {
+        Ok(file) => file,
+        Err(_) => {
+            make_room(files, path, beside)?;
+            create(files, beside)?
+        }
+    };
+    file.write_all(bytes)?;
+    file.sync_all()
+}
+
+/// Opens a file that isn't there yet.
+fn create<R: rt::Files>(files: &R, path: &str) -> io::Result<R::File> {
+    OpenOptions::new()
         .write(true)
         .create_new(true)
         .mode(OWNER_ONLY)
-        .open(files, beside)?;
-    file.write_all(bytes)?;
-    file.sync_all()
+        .open(files, path)
+}
+
+/// Makes the folders that the path lacks, and takes out what stands in the way of a file beside it.
+/// Each of the two is a call of the system, so they wait until the file can't be opened.
+fn make_room<R: rt::Files>(files: &R, path: &str, beside: &str) -> io::Result<()> {
+    make_folder_of(files, path)?;
+    remove_leftover(files, beside)
 }
 
 /// Takes out a file that a replacement left that was cut off.
