@@ -1,5 +1,6 @@
 //! Digests of any bank, and their hexadecimal text.
-ghost use Rattle.std.specs.Prelude.{◌≡◌, ℕ, ◌*◌, ◌<◌, ◌≤◌, ◌↔◌, List, length, replicate, IsSome, IfSome, Some, Ok, Err, IfOk, MatchResult};
+ghost use Rattle.std.specs.Prelude.{◌≡◌, ℕ, ◌*◌, ◌<◌, ◌≤◌, ◌↔◌, List, length, replicate, IsSome, IfSome, IsTrue, Some, Ok, Err, IfOk, MatchResult};
+ghost use Rattle.std.specs.Str.{bytes_eq};
 ghost use Rattle.hash_bank.specs.Hash.{size_in, zeros_in, ones_in};
 ghost use Rattle.hash_bank.specs.Hexadecimal.{bytes_of_hex, digest_of_hex, hex_error_of, IsPlaceWithin};
 ghost use Rattle.hash_bank.specs.Padding.{padded};
@@ -141,6 +142,14 @@ impl Digest {
         ensures fits { length result.now ≤ 64 }
     {
         &self.room[..self.len]
+    }
+
+    /// Whether both are the same digest: as many bytes, and the same ones.
+    pub fn is_same(&self, other: &Digest) -> bool
+        ensures value { result ≡ bytes_eq self.now other.now }
+        ensures equal { IsTrue result ↔ (self.now ≡ other.now) }
+    {
+        self.as_slice() == other.as_slice()
     }
 
     /// The bank's digest that a text spells, with two hexadecimal digits of either case for each

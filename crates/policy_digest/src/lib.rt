@@ -15,6 +15,6 @@ pub use crate::formulas::{
     policy_pcr_in, values_digest, values_digest_in,
 };
 pub use crate::group::Group;
-pub use crate::mask::{is_in_mask, pcr_count};
+pub use crate::mask::{is_in_mask, mask_of_pcr, pcr_count, pcrs_in};
 pub use crate::table::{Row, Table};
 pub use crate::values::Values;

@@ -1,6 +1,5 @@
 //! The values of some PCRs at once.
 ghost use Rattle.std.specs.Prelude.{◌≡◌, ◌≤◌, ◌↔◌, length, IsSome, IfSome, IfOk};
-ghost use Rattle.std.specs.Str.{bytes_eq};
 ghost use Rattle.policy_digest.specs.Table.{values_eq};
 
 use hash_bank::Digest;
@@ -27,13 +26,6 @@ impl Model for Values {
     ghost invariant = { λ v. (1 ≤ length v.list.items) × (length v.list.items ≤ 24) };
 }
 
-// Whether both are the same digest.
-fn is_same_digest(a: &Digest, b: &Digest) -> bool
-    ensures { result ≡ bytes_eq a.now b.now }
-{
-    a.as_slice() == b.as_slice()
-}
-
 // Whether both are the same digests in the same order.
 fn are_same(some: &[Digest], others: &[Digest]) -> bool
     ensures { result ≡ values_eq some.now others.now }
@@ -42,7 +34,7 @@ fn are_same(some: &[Digest], others: &[Digest]) -> bool
         return false;
     }
     for (place, digest) in some.iter().enumerate() {
-        if !is_same_digest(digest, &others[place]) {
+        if !digest.is_same(&others[place]) {
             return false;
         }
     }

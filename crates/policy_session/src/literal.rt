@@ -13,10 +13,10 @@ ghost use Rattle.policy_session.specs.LiteralUnseal.{opened, opened_at, after_un
 ghost use Rattle.policy_session.specs.OpenSession.{IsOpen, with_open, fresh_in, bound_in, bind_leaves, compare_answer};
 
 use crate::UnsealError;
-use crate::steps::{bind, flush, mask_of, read_digest, read_value, start, unseal};
+use crate::steps::{bind, flush, read_digest, read_value, start, unseal};
 use hash_bank::Digest;
 use pl_base::Small;
-use policy_digest::{policy_pcr_in, values_digest_in};
+use policy_digest::{mask_of_pcr, policy_pcr_in, values_digest_in};
 use policy_file::Literal;
 use std::alloc::Global;
 use tpm_device::Tpm;
@@ -33,7 +33,7 @@ fn policy_of(literal: &Literal) -> Digest
         literal.hash,
         &zeros,
         literal.bank,
-        mask_of(literal.pcr),
+        mask_of_pcr(literal.pcr),
         &values,
     )
 }

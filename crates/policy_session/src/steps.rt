@@ -21,6 +21,7 @@ use crate::UnsealError;
 use crate::responses::{bound, ended, pcr_value, session_digest, started, unsealed};
 use hash_bank::{Bank, Digest};
 use pl_base::Small;
+use policy_digest::mask_of_pcr;
 use policy_file::Literal;
 use std::alloc::Global;
 use tpm_device::{ExecError, Tpm};
@@ -69,16 +70,6 @@ pub(crate) fn start<T: Tpm>(alloc: Global, tpm: &mut T, hash: Bank) -> Result<u3
     started(hash, &response)
 }
 
-/// The mask of one PCR.
-#[tactic(auto, using(std::proofs::lemmas::Nat::pow_below))]
-pub(crate) fn mask_of(pcr: u8) -> u32
-    requires { pcr ≤ 23 }
-    ensures value { result ≡ 2 ^ pcr }
-    ensures bound { result < 2 ^ 24 }
-{
-    1 << pcr
-}
-
 /// Binds the session, which was just started, to the value of the literal's PCR.
 pub(crate) fn bind<T: Tpm>(
     alloc: Global,
@@ -98,7 +89,7 @@ pub(crate) fn bind<T: Tpm>(
         → T.stored tpm.old ≡ Some (Holds (with_open (fresh_in literal.now.hash s) s))
         → Stores s (with_open (bind_leaves literal.now (pcr_of s.banks s.pcrs literal.now.bank literal.now.pcr) s) s) result (T.stored tpm.new) }
 {
-    let pcrs = mask_of(literal.pcr);
+    let pcrs = mask_of_pcr(literal.pcr);
     let response = ask(
         alloc,
         tpm,

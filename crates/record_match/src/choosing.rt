@@ -2,19 +2,11 @@
 
 ghost use Rattle.std.specs.Prelude.{◌≡◌, ◌+◌, ◌-◌, ◌<◌, ◌≤◌, false, [], length, drop, slice_index_or, is_some, IfOk, IfSome, ℕ};
 ghost use Rattle.std.specs.List.{All, position_from};
-ghost use Rattle.std.specs.Str.{bytes_eq};
 ghost use Rattle.record_match.specs.Walk.{begins, first_choice, Noted, LeadBack, AllNoted, leads_on};
 
 use hash_bank::Digest;
 use pl_base::{List, Memory};
 use std::alloc::Global;
-
-/// Whether both are the same digest.
-pub(crate) fn is_same(digest: &Digest, other: &Digest) -> bool
-    ensures { result ≡ bytes_eq digest.now other.now }
-{
-    digest.as_slice() == other.as_slice()
-}
 
 /// Whether the list begins with the digests.
 fn begins_with(list: &[Digest], digests: &[Digest]) -> bool
@@ -24,7 +16,7 @@ fn begins_with(list: &[Digest], digests: &[Digest]) -> bool
         return false;
     }
     for (place, digest) in digests.iter().enumerate() {
-        if !is_same(digest, &list[place]) {
+        if !digest.is_same(&list[place]) {
             return false;
         }
     }

@@ -5,7 +5,6 @@ ghost use Rattle.std.specs.List.{position_from};
 ghost use Rattle.std.specs.Str.{bytes_eq};
 ghost use Rattle.record_match.specs.Follow.{found_from, followed_from, sooner, earliest_from, missing_from};
 
-use crate::choosing::is_same;
 use hash_bank::Digest;
 use pl_base::List;
 
@@ -14,7 +13,7 @@ fn place_of(list: &[Digest], digest: &Digest) -> Option<usize>
     ensures value { result ≡ position_from (bytes_eq digest.now) 0 list.now }
     ensures bound { IfSome result (λ k. k < length list.now) }
 {
-    list.iter().position(|held| is_same(digest, held))
+    list.iter().position(|held| digest.is_same(held))
 }
 
 /// The place behind the first digest from the place on that is this one.
