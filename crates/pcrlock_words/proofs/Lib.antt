@@ -1,6 +1,5 @@
 pub mod LineLemmas
 pub mod Bytes
-pub mod Numbers
 pub mod ParserWords
 pub mod ParserReads
 pub mod ParserSet

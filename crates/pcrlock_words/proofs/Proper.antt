@@ -11,7 +11,8 @@ use Rattle.pcrlock_words.specs.declared.request.Request.{Request}
 use Rattle.pcrlock_words.specs.Options.{Given, value_of, is_given}
 use Rattle.pcrlock_words.specs.Commands.{command_named, options_for}
 use Rattle.pcrlock_words.specs.Readings.{Gives}
-use Rattle.pcrlock_words.specs.Values.{pcr_of, pcrs_of, index_of, pin_of, key_of, locality_of, banks_of, clients_up_to, machine_of, all_banks}
+use Rattle.pl_text.specs.Words.{pcr_of, pcr_mask_of, banks_of}
+use Rattle.pcrlock_words.specs.Values.{index_of, pin_of, key_of, locality_of, clients_up_to, machine_of, all_banks}
 use Rattle.pcrlock_words.specs.Fields.{path_in, path_beside, firmware_log_in, userspace_log_in, components_in, location_in, pcrs_in, pcr_in, bank_in, banks_in, index_in, optional_index_in, pin_in, key_in, literal_in, literal_bank_in, optional_locality_in, locality_in, clients_in, client_limit, number_in, policy_in, standing_policy, default_pcrs, extended_bytes, made_beside, makes_at, variant_in}
 use Rattle.pcrlock_words.specs.ProperRequest.{IsProperRequest, SparesPolicy, IsPcr, IsMask, IsIndex, IsLocality, AreClients, IsKey, IsPin, MakesNoneAt}
 use Rattle.pcrlock_words.specs.Requests as spelled
@@ -27,7 +28,7 @@ default_mask : IsMask default_pcrs
 default_mask = (omega arith, omega arith)
 
 mask_known : (options : List Given) → IfSome (pcrs_in options) IsMask
-mask_known options = in_defaulted IsMask pcrs_of default_pcrs default_mask pcrs_within (value_of (codes "pcr") options)
+mask_known options = in_defaulted IsMask pcr_mask_of default_pcrs default_mask pcrs_within (value_of (codes "pcr") options)
 
 pcr_known : (options : List Given) → IfSome (pcr_in options) IsPcr
 pcr_known options = in_required IsPcr pcr_of (number_within 23) (value_of (codes "pcr") options)

@@ -2,7 +2,6 @@
 use Rattle.std.proofs.Common.{◌≡◌, ◌∙◌, ℕ, ◌*◌, ◌<◌, ◌≤◌, ◌^◌, Bool, true, false, cond, ◌&&◌, ◌||◌, List, [], ◌∷◌, length, Option, Some, None, Result, Ok, Err, refl, sym, arith, true≢false}
 use Rattle.std.specs.Prelude.{◌==◌, nat_le, IfSome, IsTrue, bit_or, option_map}
 use Rattle.std.specs.Result.{result_ok}
-use Rattle.std.specs.Int.{from_be_bytes, w32}
 use Rattle.std.proofs.lemmas.Bool.{and_parts, leb-true}
 use Rattle.std.proofs.lemmas.Nat.{or_lt, le_or_r, pow_pos}
 use Rattle.std.proofs.Math.Pow.{pow-lt}
@@ -17,8 +16,10 @@ use Rattle.hash_bank.specs.declared.banks.Banks.{Banks}
 use Rattle.hash_bank.specs.Banks.{has_bank}
 use Rattle.policy_digest.specs.Mask.{has_pcr}
 use Rattle.pcrlock_words.specs.ProperRequest.{IsMask, IsIndex, IsLocality, AreClients, IsKey, IsPin, has_some_bank}
-use Rattle.pcrlock_words.specs.Values.{◌>>=◌, required, optional, defaulted, number_up_to, pcr_of, with_pcr, with_pcrs, pcrs_of, parts_of, bank_of, with_bank, with_banks, no_bank, banks_of, locality_of, key_of, pin_of, nv_handle, index_of, clients_up_to}
-use Rattle.pcrlock_words.proofs.Numbers.{number-in_range}
+use Rattle.pl_text.specs.Parts.{parts_of}
+use Rattle.pl_text.specs.Words.{◌>>=◌, number_up_to, pcr_of, with_pcr, with_pcrs, pcr_mask_of, bank_of, with_bank, with_banks, no_bank, banks_of, handle_of}
+use Rattle.pcrlock_words.specs.Values.{required, optional, defaulted, locality_of, key_of, pin_of, nv_handle, index_of, clients_up_to}
+use Rattle.pl_text.proofs.Decimals.{number-in_range}
 
 abbrev pub Text : Type 0
 Text = List ℕ
@@ -91,7 +92,7 @@ handle_within handle = let_by IsIndex (nat_le 0x01000000 handle && nat_le handle
 
 pub index_within : (value : Text) → IfSome (index_of value) IsIndex
 index_within value =
-    after IsIndex (result_ok (decode_sized value 4)) (λ bytes. nv_handle (from_be_bytes w32 bytes)) (λ bytes. handle_within (from_be_bytes w32 bytes))
+    after IsIndex (handle_of value) nv_handle handle_within
 
 -- ---- bytes
 
@@ -151,11 +152,11 @@ first_pcrs (number ∷ numbers) some =
     known (λ n. n ≤ 23) IsMask (pcr_of number) (λ pcr. cond (has_pcr 0 pcr) None (with_pcrs (with_pcr 0 pcr) numbers)) (number_within 23 number)
     (λ pcr below. held_back IsMask (has_pcr 0 pcr) (with_pcrs (with_pcr 0 pcr) numbers) (pcrs_more numbers (with_pcr 0 pcr) (mask_more 0 pcr (omega arith) below)))
 
-some_parts : (value : Text) → 1 ≤ length (parts_of value)
+some_parts : (value : Text) → 1 ≤ length (parts_of 44 value)
 some_parts value = omega (arith, length-slice_split (λ byte. byte == 44) value)
 
-pub pcrs_within : (value : Text) → IfSome (pcrs_of value) IsMask
-pcrs_within value = first_pcrs (parts_of value) (some_parts value)
+pub pcrs_within : (value : Text) → IfSome (pcr_mask_of value) IsMask
+pcrs_within value = first_pcrs (parts_of 44 value) (some_parts value)
 
 -- ---- banks
 
@@ -190,4 +191,4 @@ first_banks (name ∷ names) some =
     (λ bank. held_back HasSome (has_bank no_bank bank) (with_banks (with_bank bank no_bank) names) (banks_more names (with_bank bank no_bank) (some_bank bank no_bank)))
 
 pub banks_within : (value : Text) → IfSome (banks_of value) HasSome
-banks_within value = first_banks (parts_of value) (some_parts value)
+banks_within value = first_banks (parts_of 44 value) (some_parts value)

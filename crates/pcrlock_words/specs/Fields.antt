@@ -9,7 +9,8 @@ use Rattle.component_make.specs.declared.kind.FirmwareKind.{FirmwareKind}
 use Rattle.component_make.specs.FirmwareFiles.{early_path, late_path}
 use Rattle.pcrlock_words.specs.declared.fields.MadeFiles.{MadeFiles}
 use Rattle.pcrlock_words.specs.Options.{Given, is_given, value_of}
-use Rattle.pcrlock_words.specs.Values.{◌>>=◌, required, optional, defaulted, path_of, pcr_of, pcrs_of, with_pcr, bank_of, banks_of, all_banks, key_of, hex_of, pin_of, index_of, folders_of, locality_of, clients_up_to, machine_of, variant_of}
+use Rattle.pl_text.specs.Words.{◌>>=◌, pcr_of, pcr_mask_of, with_pcr, bank_of, banks_of}
+use Rattle.pcrlock_words.specs.Values.{required, optional, defaulted, path_of, all_banks, key_of, hex_of, pin_of, index_of, folders_of, locality_of, clients_up_to, machine_of, variant_of}
 use Rattle.pcrlock_words.specs.Windows.{location_in_force}
 
 -- a path that has to be given, and one that may be left out
@@ -43,7 +44,7 @@ default_pcrs = fold with_pcr 0 (0 ∷ 1 ∷ 2 ∷ 3 ∷ 4 ∷ 5 ∷ 7 ∷ 11 ∷
 
 -- the mask of the asked PCRs
 abbrev pub pcrs_in : List Given → Option ℕ
-pcrs_in options = defaulted pcrs_of default_pcrs (value_of (codes "pcr") options)
+pcrs_in options = defaulted pcr_mask_of default_pcrs (value_of (codes "pcr") options)
 
 -- the one PCR that has to be given
 abbrev pub pcr_in : List Given → Option ℕ

@@ -13,7 +13,8 @@ use Rattle.pcr_replay.specs.Measured.{replayed_in}
 use Rattle.pcr_replay.specs.declared.record.Origin.{Origin}
 use Rattle.pcr_replay.specs.declared.record.Origin.TheVariants.{Firmware, User}
 use Rattle.record_match.specs.ListedBy.{listed_by_of}
-use Rattle.pcrlock_answer.specs.Texts.{handle_text, line_end}
+use Rattle.pl_text.specs.Texts.{handle_text}
+use Rattle.pcrlock_answer.specs.Texts.{line_end}
 
 -- a text, or a dash where there is none
 abbrev pub or_dash : Option (List ℕ) → List ℕ

@@ -10,7 +10,7 @@ use Rattle.predictor.specs.declared.protection.Cause.{Cause}
 use Rattle.predictor.specs.declared.protection.Cause.TheVariants.{NoLogDigest, ValueDiffers, MissingComponent, Unrecognised}
 use Rattle.predictor.specs.declared.protection.LeftOut.{LeftOut}
 use Rattle.predictor.specs.declared.protection.Protection.{Protection}
-use Rattle.pcrlock_answer.specs.Joined.{mask_text, with_commas}
+use Rattle.pl_text.specs.Texts.{mask_text, with_commas}
 use Rattle.pcrlock_answer.specs.Texts.{line_end}
 use Rattle.pcrlock_words.specs.LogText.{id_at}
 

@@ -6,7 +6,7 @@ use Rattle.pcrlock_words.specs.declared.command.Command.TheVariants as commands
 use Rattle.pcrlock_words.specs.declared.request.Request.{Request}
 use Rattle.pcrlock_words.specs.declared.request.Request.TheVariants as requests
 use Rattle.pcrlock_words.specs.Options.{Given, is_given, value_of}
-use Rattle.pcrlock_words.specs.Values.{◌>>=◌}
+use Rattle.pl_text.specs.Words.{◌>>=◌}
 use Rattle.pcrlock_words.specs.Commands.{command_named, options_for}
 use Rattle.pcrlock_words.specs.Fields.{path_in, path_beside, firmware_log_in, userspace_log_in, components_in, location_in, pcrs_in, pcr_in, bank_in, banks_in, index_in, optional_index_in, pin_in, key_in, literal_in, literal_bank_in, optional_locality_in, locality_in, clients_in, client_limit, number_in, extended_bytes, standing_policy, policy_in, made_beside}
 

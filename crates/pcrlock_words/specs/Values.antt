@@ -1,24 +1,11 @@
 -- How the values of options are read.
-use Rattle.std.specs.Prelude.{ℕ, Bool, true, false, ◌==◌, ◌&&◌, ◌||◌, not, bit_or, ◌^◌, nat_le, slice_index, if◌then◌else◌, List, [], ◌∷◌, length, find, Option, Some, None, option_map}
-use Rattle.std.specs.List.{list_all, list_any, slice_split}
+use Rattle.std.specs.Prelude.{ℕ, Bool, true, ◌==◌, ◌&&◌, ◌||◌, not, nat_le, if◌then◌else◌, List, length, Option, Some, None, option_map}
+use Rattle.std.specs.List.{list_all, list_any}
 use Rattle.std.specs.Result.{result_ok}
-use Rattle.std.specs.Str.{bytes_eq}
-use Rattle.std.specs.Str.Parse.{digits_value}
-use Rattle.std.specs.Fmt.{decimal}
-use Rattle.std.specs.Int.{from_be_bytes, w32}
-use Rattle.hex.specs.Hex.{decode_of, decode_sized}
-use Rattle.hash_bank.specs.declared.bank.Bank.{Bank}
-use Rattle.hash_bank.specs.declared.bank.Bank.TheVariants.{Sha1, Sha256, Sha384, Sha512}
+use Rattle.hex.specs.Hex.{decode_of}
 use Rattle.hash_bank.specs.declared.banks.Banks.{Banks}
-use Rattle.hash_bank.specs.Banks.{has_bank}
-use Rattle.hash_bank.specs.Hash.{name_in}
-use Rattle.policy_digest.specs.Mask.{has_pcr}
-
--- the second reading, of what the first gives
-infixl 10 ◌>>=◌
-abbrev pub ◌>>=◌ : {A B : Type 0} → Option A → (A → Option B) → Option B
-None >>= f = None
-Some x >>= f = f x
+use Rattle.pl_text.specs.Parts.{parts_of}
+use Rattle.pl_text.specs.Words.{◌>>=◌, bytes_of, handle_of, number_up_to}
 
 -- a value that has to be given
 abbrev pub required : {A : Type 0} → (List ℕ → Option A) → Option (List ℕ) → Option A
@@ -39,16 +26,6 @@ defaulted read default (Some value) = read value
 abbrev pub path_of : List ℕ → Option (List ℕ)
 path_of value = if length value == 0 then None else Some value
 
--- whether a value has no sign, and no zero before another digit
-abbrev pub is_plain : List ℕ → Bool
-is_plain value = not (slice_index value 0 == 43) && (length value == 1 || not (slice_index value 0 == 48))
-
--- a number up to a limit, in decimal digits with no sign and no leading zero
-abbrev pub number_up_to : ℕ → List ℕ → Option ℕ
-number_up_to limit value =
-    let n = digits_value 10 value in
-    if nat_le n limit && bytes_eq value (decimal n) then Some n else None
-
 -- so many clients as there may be, at least one
 abbrev pub clients_up_to : ℕ → List ℕ → Option ℕ
 clients_up_to limit value = do
@@ -59,63 +36,15 @@ clients_up_to limit value = do
 abbrev pub machine_of : List ℕ → Option ℕ
 machine_of value = number_up_to 511 value
 
--- a PCR's number
-abbrev pub pcr_of : List ℕ → Option ℕ
-pcr_of value = number_up_to 23 value
-
--- the mask with one more PCR
-abbrev pub with_pcr : ℕ → ℕ → ℕ
-with_pcr mask pcr = bit_or mask (2 ^ pcr)
-
--- the mask with those of further numbers, none of which is there yet
-abbrev pub with_pcrs : ℕ → List (List ℕ) → Option ℕ
-with_pcrs mask [] = Some mask
-with_pcrs mask (number ∷ numbers) = do
-  pcr ← pcr_of number
-  if has_pcr mask pcr then None else with_pcrs (with_pcr mask pcr) numbers
-
--- the bank of this name
-abbrev pub bank_of : List ℕ → Option Bank
-bank_of value = find (λ bank. bytes_eq (name_in bank) value) (Sha1 ∷ Sha256 ∷ Sha384 ∷ Sha512 ∷ [])
-
--- the parts of a list, which commas part
-abbrev pub parts_of : List ℕ → List (List ℕ)
-parts_of value = slice_split (λ byte. byte == 44) value
-
--- the mask of the PCRs of these numbers, none of them twice
-abbrev pub pcrs_of : List ℕ → Option ℕ
-pcrs_of value = with_pcrs 0 (parts_of value)
-
 -- at most 16 folders, each a path
 abbrev pub folders_of : List ℕ → Option (List (List ℕ))
 folders_of value =
-    let folders = parts_of value in
+    let folders = parts_of 44 value in
     if nat_le (length folders) 16 && not (list_any (λ folder. length folder == 0) folders) then Some folders else None
 
--- no bank, and all of them
-abbrev pub no_bank : Banks
-no_bank = record { sha1 = false; sha256 = false; sha384 = false; sha512 = false }
-
+-- all banks
 abbrev pub all_banks : Banks
 all_banks = record { sha1 = true; sha256 = true; sha384 = true; sha512 = true }
-
--- the banks with one more
-abbrev pub with_bank : Bank → Banks → Banks
-with_bank Sha1 banks = record banks { sha1 = true }
-with_bank Sha256 banks = record banks { sha256 = true }
-with_bank Sha384 banks = record banks { sha384 = true }
-with_bank Sha512 banks = record banks { sha512 = true }
-
--- the banks with those of further names, none of which is there yet
-abbrev pub with_banks : Banks → List (List ℕ) → Option Banks
-with_banks banks [] = Some banks
-with_banks banks (name ∷ names) = do
-  bank ← bank_of name
-  if has_bank banks bank then None else with_banks (with_bank bank banks) names
-
--- the banks of these names, none of them twice
-abbrev pub banks_of : List ℕ → Option Banks
-banks_of value = with_banks no_bank (parts_of value)
 
 -- a locality at which a TPM is started (TCG PC Client Platform Firmware Profile, StartupLocality)
 abbrev pub locality_of : List ℕ → Option ℕ
@@ -138,7 +67,7 @@ hex_of value = bytes_between 0 256 value
 
 -- a pin, of 32 bytes
 abbrev pub pin_of : List ℕ → Option (List ℕ)
-pin_of value = result_ok (decode_sized value 32)
+pin_of value = bytes_of 32 value
 
 -- a byte of a variant's name: a graphic character of ASCII, but no slash
 abbrev pub is_variant_byte : ℕ → Bool
@@ -156,5 +85,5 @@ nv_handle handle = if nat_le 0x01000000 handle && nat_le handle 0x01ffffff then 
 -- the handle of an NV index, in eight hexadecimal digits of either case
 abbrev pub index_of : List ℕ → Option ℕ
 index_of value = do
-  bytes ← result_ok (decode_sized value 4)
-  nv_handle (from_be_bytes w32 bytes)
+  handle ← handle_of value
+  nv_handle handle

@@ -8,9 +8,9 @@ ghost use Rattle.pcrlock_words.specs.PredictText.{count_text, counts_text as tex
 
 use crate::predict::{write_all_left, write_left_of};
 use component_tree::Tree;
-use pcrlock_answer::{pcrs_in, write_pcrs};
 use pl_base::Memory;
-use policy_digest::{Row, is_in_mask};
+use pl_text::write_numbers;
+use policy_digest::{Row, is_in_mask, pcrs_in};
 use predictor::Protection;
 use std::alloc::Global;
 use std::fmt::Write;
@@ -92,7 +92,7 @@ fn write_together_count(alloc: Global, text: &mut String, row: &Row) -> Result<(
     let pcrs = pcrs_in(alloc, row.pcrs)?;
     let count = row.choices.len();
     write!(text, "joint ")?;
-    write_pcrs(text, pcrs.as_slice())?;
+    write_numbers(text, pcrs.as_slice())?;
     writeln!(text, " {count}")?;
     Ok(())
 }

@@ -7,13 +7,13 @@ ghost use Rattle.pcrlock_words.specs.Fields.{bank_in, banks_in, client_limit, cl
 use crate::error::WordsError;
 use crate::options::Options;
 use crate::values::{
-    names, read_bank, read_banks, read_clients, read_folders, read_hex, read_index, read_key,
-    read_locality, read_location, read_machine, read_path, read_pcr, read_pcrs, read_pin,
-    read_variant,
+    names, read_clients, read_folders, read_hex, read_index, read_key, read_locality,
+    read_location, read_machine, read_path, read_variant,
 };
 use component_make::{FirmwareKind, early_path, late_path};
 use hash_bank::{Bank, Banks};
 use pl_base::{List, Memory, Name, Small};
+use pl_text::{read_bank, read_banks, read_pcr, read_pcr_mask, read_pin};
 use predictor::Window;
 use std::alloc::Global;
 
@@ -123,11 +123,11 @@ pub(crate) fn location(alloc: Global, options: &Options<'_>) -> Result<Window, W
 }
 
 /// The mask of the asked PCRs, or its default.
-pub(crate) fn pcrs(alloc: Global, options: &Options<'_>) -> Result<u32, WordsError>
+pub(crate) fn pcrs(options: &Options<'_>) -> Result<u32, WordsError>
     ensures { Gives result (pcrs_in options.now) }
 {
     match options.value("pcr") {
-        Some(value) => read_pcrs(alloc, value),
+        Some(value) => read_pcr_mask(value.as_bytes()).ok_or(WordsError::BadWords),
         None => Ok(DEFAULT_PCRS),
     }
 }
@@ -137,7 +137,7 @@ pub(crate) fn pcr(options: &Options<'_>) -> Result<u8, WordsError>
     ensures { Gives result (pcr_in options.now) }
 {
     match options.value("pcr") {
-        Some(value) => read_pcr(value).ok_or(WordsError::BadWords),
+        Some(value) => read_pcr(value.as_bytes()).ok_or(WordsError::BadWords),
         None => Err(WordsError::BadWords),
     }
 }
@@ -147,17 +147,17 @@ pub(crate) fn bank(options: &Options<'_>) -> Result<Bank, WordsError>
     ensures { Gives result (bank_in options.now) }
 {
     match options.value("bank") {
-        Some(value) => read_bank(value).ok_or(WordsError::BadWords),
+        Some(value) => read_bank(value.as_bytes()).ok_or(WordsError::BadWords),
         None => Ok(Bank::Sha256),
     }
 }
 
 /// The banks, or all of them.
-pub(crate) fn banks(alloc: Global, options: &Options<'_>) -> Result<Banks, WordsError>
+pub(crate) fn banks(options: &Options<'_>) -> Result<Banks, WordsError>
     ensures { Gives result (banks_in options.now) }
 {
     match options.value("banks") {
-        Some(value) => read_banks(alloc, value),
+        Some(value) => read_banks(value.as_bytes()).ok_or(WordsError::BadWords),
         None => Ok(ALL_BANKS),
     }
 }
@@ -187,7 +187,7 @@ pub(crate) fn pin(options: &Options<'_>) -> Result<Option<[u8; 32]>, WordsError>
     ensures { Gives result (pin_in options.now) }
 {
     match options.value("pin") {
-        Some(value) => Ok(Some(read_pin(value).ok_or(WordsError::BadWords)?)),
+        Some(value) => Ok(Some(read_pin(value.as_bytes()).ok_or(WordsError::BadWords)?)),
         None => Ok(None),
     }
 }
@@ -207,7 +207,7 @@ pub(crate) fn literal(options: &Options<'_>) -> Result<Option<u8>, WordsError>
     ensures { Gives result (literal_in options.now) }
 {
     match options.value("literal") {
-        Some(value) => Ok(Some(read_pcr(value).ok_or(WordsError::BadWords)?)),
+        Some(value) => Ok(Some(read_pcr(value.as_bytes()).ok_or(WordsError::BadWords)?)),
         None => Ok(None),
     }
 }

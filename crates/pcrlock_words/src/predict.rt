@@ -5,15 +5,15 @@ ghost use Rattle.std.specs.Fmt.{decimal};
 ghost use Rattle.hex.specs.Hex.{encode_lower};
 ghost use Rattle.component_tree.specs.PlainTree.{plain};
 ghost use Rattle.policy_digest.specs.Mask.{has_pcr, pcrs_of};
-ghost use Rattle.pcrlock_answer.specs.Joined.{mask_text, with_commas};
+ghost use Rattle.pl_text.specs.Texts.{mask_text, with_commas};
 ghost use Rattle.pcrlock_words.specs.PredictText.{each_text, joint_text, left_text, one_pcr_text, predict_text, together_text, value_text, values_text};
 
 use crate::log::component_id;
 use component_tree::Tree;
 use hash_bank::Digest;
-use pcrlock_answer::{pcrs_in, write_pcrs};
 use pl_base::Memory;
-use policy_digest::{Row, Values, is_in_mask};
+use pl_text::write_numbers;
+use policy_digest::{Row, Values, is_in_mask, pcrs_in};
 use predictor::{Cause, LeftOut, Protection};
 use std::alloc::Global;
 use std::fmt::Write;
@@ -156,7 +156,7 @@ fn write_together(text: &mut String, pcrs: &[u8], values: &[Digest]) -> Result<(
     ensures { OnOk result (string_bytes text.new ≡ string_bytes text.old ++ (codes "joint " ++ with_commas (map decimal pcrs.now) ++ codes " " ++ values_text values.now ++ codes "\n")) }
 {
     write!(text, "joint ")?;
-    write_pcrs(text, pcrs)?;
+    write_numbers(text, pcrs)?;
     write!(text, " ")?;
     write_values(text, values)?;
     writeln!(text, "")?;

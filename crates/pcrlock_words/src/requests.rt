@@ -70,7 +70,7 @@ pub(crate) fn predict(alloc: Global, options: &Options<'_>) -> Result<Request, W
     let userspace_log = fields::userspace_log(alloc, options)?;
     let components = fields::components(alloc, options)?;
     let location = fields::location(alloc, options)?;
-    let pcr = fields::pcrs(alloc, options)?;
+    let pcr = fields::pcrs(options)?;
     let bank = fields::bank(options)?;
     let joint = options.has("joint");
     Ok(Request::Predict {
@@ -96,7 +96,7 @@ pub(crate) fn make_policy(
     let userspace_log = fields::userspace_log(alloc, options)?;
     let components = fields::components(alloc, options)?;
     let location = fields::location(alloc, options)?;
-    let pcr = fields::pcrs(alloc, options)?;
+    let pcr = fields::pcrs(options)?;
     let bank = fields::bank(options)?;
     let policy = fields::policy(alloc, options, script_policy)?;
     let index = fields::optional_index(options)?;
@@ -172,7 +172,7 @@ pub(crate) fn tpm_boot(alloc: Global, options: &Options<'_>) -> Result<Request, 
     let firmware_log = fields::firmware_log(alloc, options)?;
     let userspace_log = fields::userspace_log(alloc, options)?;
     let locality = fields::optional_locality(options)?;
-    let banks = fields::banks(alloc, options)?;
+    let banks = fields::banks(options)?;
     Ok(Request::TpmBoot {
         firmware_log,
         userspace_log,
@@ -332,7 +332,7 @@ pub(crate) fn prove(
     let output = fields::path_beside(alloc, options, "output", &policy)?;
     let components = fields::components(alloc, options)?;
     let location = fields::location(alloc, options)?;
-    let pcr = fields::pcrs(alloc, options)?;
+    let pcr = fields::pcrs(options)?;
     let bank = fields::bank(options)?;
     let locality = fields::locality(options)?;
     let joint = options.has("joint");

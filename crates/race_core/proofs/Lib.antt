@@ -1,2 +1,1 @@
-pub mod Commas
 pub mod Plays

@@ -2,28 +2,13 @@
 -- hexadecimal digits of lower case.
 use Rattle.std.specs.Prelude.{ℕ, List, [], ◌∷◌, ◌++◌, map, codes}
 use Rattle.std.specs.Fmt.{decimal}
-use Rattle.std.specs.Int.{to_be_bytes, w32}
 use Rattle.hex.specs.Hex.{encode_lower}
 use Rattle.hash_bank.specs.Hash.{name_in}
-use Rattle.policy_digest.specs.Mask.{pcrs_of}
+use Rattle.pl_text.specs.Texts.{handle_text, mask_text}
 use Rattle.policy_walk.specs.declared.why.Why.{Why}
 use Rattle.policy_walk.specs.declared.why.Why.TheVariants as why
 use Rattle.race_core.specs.declared.outcome.Outcome.{Outcome}
 use Rattle.race_core.specs.declared.outcome.Outcome.TheVariants as outcome
-
--- a handle
-abbrev pub handle_text : ℕ → List ℕ
-handle_text handle = encode_lower (to_be_bytes w32 handle)
-
--- texts with commas between them
-abbrev pub with_commas : List (List ℕ) → List ℕ
-with_commas [] = []
-with_commas (text ∷ []) = text
-with_commas (text ∷ other ∷ texts) = text ++ codes "," ++ with_commas (other ∷ texts)
-
--- the PCRs of a mask, ascending
-abbrev pub mask_text : ℕ → List ℕ
-mask_text mask = with_commas (map decimal (pcrs_of mask))
 
 -- two texts behind a word
 abbrev pub two_texts : List ℕ → List ℕ → List ℕ → List ℕ

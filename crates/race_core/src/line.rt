@@ -1,115 +1,17 @@
 //! The line of a client's outcome.
-ghost use Rattle.std.specs.Prelude.{◌≡◌, ◌≤◌, ◌++◌, length, map, flat_map, codes, IfOk, OnOk};
+ghost use Rattle.std.specs.Prelude.{◌≡◌, ◌≤◌, ◌++◌, length, codes, IfOk, OnOk};
 ghost use Rattle.std.specs.Fmt.{decimal};
 ghost use Rattle.hex.specs.Hex.{encode_lower};
 ghost use Rattle.hash_bank.specs.Hash.{name_in};
-ghost use Rattle.policy_digest.specs.Mask.{pcrs_of};
-ghost use Rattle.race_core.specs.OutcomeText.{client_line, handle_text, mask_text, outcome_text, two_texts, why_text, with_commas};
+ghost use Rattle.pl_text.specs.Texts.{handle_text, mask_text};
+ghost use Rattle.race_core.specs.OutcomeText.{client_line, outcome_text, two_texts, why_text};
 
 use crate::outcome::Outcome;
 use hash_bank::{Bank, Digest};
-use pl_base::{List, Memory};
-use policy_digest::is_in_mask;
+use pl_base::Memory;
+use pl_text::{push, push_handle, push_hex, push_mask, push_number};
 use policy_walk::Why;
 use std::alloc::Global;
-
-// The most bytes that are printed at once.
-const ROOM: usize = 128;
-
-// Puts bytes at the end of a text.
-fn push(text: &mut Vec<u8>, bytes: &[u8]) -> Result<(), Memory>
-    ensures { OnOk result (text.new.items ≡ text.old.items ++ bytes.now) }
-{
-    text.extend_from_slice(bytes)?;
-    Ok(())
-}
-
-// Puts the hexadecimal digits of bytes at the end of a text.
-fn push_hex(text: &mut Vec<u8>, bytes: &[u8]) -> Result<(), Memory>
-    requires { length bytes.now ≤ 128 }
-    ensures { OnOk result (text.new.items ≡ text.old.items ++ encode_lower bytes.now) }
-{
-    let mut room = [0u8; 2 * ROOM];
-    let digits = &mut room[..2 * bytes.len()];
-    let Ok(()) = hex::encode_to_slice(bytes, digits) else {
-        unreachable!();
-    };
-    push(text, digits)
-}
-
-// Puts a handle at the end of a text.
-fn push_handle(text: &mut Vec<u8>, handle: u32) -> Result<(), Memory>
-    ensures { OnOk result (text.new.items ≡ text.old.items ++ handle_text handle) }
-{
-    push_hex(text, &handle.to_be_bytes())
-}
-
-// Puts the decimal digits of a number at the end of a text.
-fn push_number(alloc: Global, text: &mut Vec<u8>, number: u32) -> Result<(), Memory>
-    ensures { OnOk result (text.new.items ≡ text.old.items ++ decimal number) }
-{
-    let digits = format!(in alloc; "{number}")?;
-    push(text, digits.as_bytes())
-}
-
-// The PCRs of the mask, ascending.
-fn pcrs_in(alloc: Global, mask: u32) -> Result<List<u8>, Memory>
-    ensures { IfOk result (λ pcrs. pcrs ≡ pcrs_of mask) }
-{
-    let mut pcrs = List::new(alloc);
-    for pcr in 0..24u8 {
-        if is_in_mask(mask, pcr) {
-            pcrs.push(pcr)?;
-        }
-    }
-    Ok(pcrs)
-}
-
-// Puts the decimal digits of a PCR at the end of a text.
-fn push_pcr(alloc: Global, text: &mut Vec<u8>, pcr: u8) -> Result<(), Memory>
-    ensures { OnOk result (text.new.items ≡ text.old.items ++ decimal pcr) }
-{
-    let digits = format!(in alloc; "{pcr}")?;
-    push(text, digits.as_bytes())
-}
-
-// Puts a PCR behind a comma at the end of a text.
-fn push_more(alloc: Global, text: &mut Vec<u8>, pcr: u8) -> Result<(), Memory>
-    ensures { OnOk result (text.new.items ≡ text.old.items ++ (codes "," ++ decimal pcr)) }
-{
-    push(text, b",")?;
-    push_pcr(alloc, text, pcr)
-}
-
-// Puts further numbers, each behind a comma, at the end of a text.
-fn push_others(alloc: Global, text: &mut Vec<u8>, pcrs: &[u8]) -> Result<(), Memory>
-    ensures { OnOk result (text.new.items ≡ text.old.items ++ flat_map (λ pcr. codes "," ++ decimal pcr) pcrs.now) }
-{
-    for pcr in pcrs {
-        push_more(alloc, text, *pcr)?;
-    }
-    Ok(())
-}
-
-// Puts numbers with commas between at the end of a text.
-fn push_pcrs(alloc: Global, text: &mut Vec<u8>, pcrs: &[u8]) -> Result<(), Memory>
-    ensures { OnOk result (text.new.items ≡ text.old.items ++ with_commas (map decimal pcrs.now)) }
-{
-    let Some((first, others)) = pcrs.split_first() else {
-        return Ok(());
-    };
-    push_pcr(alloc, text, *first)?;
-    push_others(alloc, text, others)?;
-    Ok(())
-}
-
-// Puts the PCRs of a mask at the end of a text.
-fn push_mask(alloc: Global, text: &mut Vec<u8>, mask: u32) -> Result<(), Memory>
-    ensures { OnOk result (text.new.items ≡ text.old.items ++ mask_text mask) }
-{
-    let pcrs = pcrs_in(alloc, mask)?;
-    push_pcrs(alloc, text, pcrs.as_slice())
-}
 
 // Puts the PCRs of a row that isn't met at the end of a text.
 fn push_unmet(alloc: Global, text: &mut Vec<u8>, mask: u32) -> Result<(), Memory>

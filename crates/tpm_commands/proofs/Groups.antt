@@ -3,9 +3,10 @@ use Rattle.std.proofs.Common.{◌≡◌, ℕ, ◌+◌, ◌≤◌, Bool, true, fa
 use Rattle.std.specs.Prelude.{nat_le, option_map}
 use Rattle.std.specs.Borrow.{Bor}
 use Rattle.std.proofs.lemmas.Bool.{le-leb, lt-leb}
-use Rattle.tpm_commands.specs.Parts.{parts_behind, parts_of}
-use Rattle.tpm_commands.proofs.Splits.{has_first}
-use Rattle.tpm_commands.specs.Values.{◌>>=◌, group_of, policies_of, policy_of}
+use Rattle.pl_text.specs.Parts.{parts_behind, parts_of}
+use Rattle.pl_text.proofs.Splits.{has_first}
+use Rattle.pl_text.specs.Words.{◌>>=◌}
+use Rattle.tpm_commands.specs.Values.{group_of, policies_of, policy_of}
 
 -- the digests before, and those of the texts, where there are at most 8 in all
 abbrev pub group_from : List (List ℕ) → List (List ℕ) → Option (List (List ℕ))

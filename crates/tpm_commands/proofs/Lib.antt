@@ -1,5 +1,4 @@
 pub mod Splits
-pub mod Numbers
 pub mod Sizes
 pub mod Walks
 pub mod Updates

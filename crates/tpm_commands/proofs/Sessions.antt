@@ -7,9 +7,9 @@ use Rattle.hash_bank.specs.declared.bank.Bank.TheVariants.{Sha384}
 use Rattle.tpm_model.specs.declared.command.Command.{Command}
 use Rattle.tpm_model.specs.declared.command.Command.TheVariants as command
 use Rattle.tpm_commands.specs.CommandLine.{start_session_of}
-use Rattle.tpm_commands.specs.Parts.{one_of, parts_behind, parts_of}
-use Rattle.tpm_commands.specs.Values.{◌>>=◌}
-use Rattle.tpm_commands.proofs.Splits.{has_first}
+use Rattle.pl_text.specs.Parts.{one_of, parts_behind, parts_of}
+use Rattle.pl_text.specs.Words.{◌>>=◌}
+use Rattle.pl_text.proofs.Splits.{has_first}
 
 -- the session of a hash's name
 abbrev named : List ℕ → Option Command

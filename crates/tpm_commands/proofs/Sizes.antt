@@ -10,8 +10,8 @@ use Rattle.hash_bank.specs.declared.bank.Bank.TheVariants.{Sha1, Sha256, Sha384,
 use Rattle.hash_bank.specs.Digests.{digest_at}
 use Rattle.hash_bank.specs.Hash.{size_in}
 use Rattle.tpm_commands.specs.Digests.{Sized, listed, place_in, sized, sized_by, with_digest, with_spelled}
-use Rattle.tpm_commands.specs.Parts.{parts_of, two_of}
-use Rattle.tpm_commands.specs.Values.{bank_of, bytes_of}
+use Rattle.pl_text.specs.Parts.{parts_of, two_of}
+use Rattle.pl_text.specs.Words.{bank_of, bytes_of}
 
 -- a length has one proof
 same_fit : (n : ℕ) (bytes : List ℕ) (f g : length bytes ≡ n) → f ≡ g

@@ -10,9 +10,9 @@ use Rattle.tpm_commands.specs.declared.error.CommandsError.{CommandsError}
 use Rattle.tpm_commands.specs.declared.error.CommandsError.TheVariants.{BadLine, TooMany, Memory}
 use Rattle.tpm_commands.specs.File.{Line, PassedOver, Spelled, Bad, item_in, items_by, items_of, is_bad, is_passed_over, line_of, line_limit, lines_of, without_last_empty}
 use Rattle.tpm_commands.specs.Answers.{Refuses}
-use Rattle.tpm_commands.specs.Parts.{parts_of}
+use Rattle.pl_text.specs.Parts.{parts_of}
 use Rattle.tpm_commands.specs.Walk.{◌>>=◌, behind_line, items_from, lines_by, taken}
-use Rattle.tpm_commands.proofs.Splits.{HasFirst, has_first}
+use Rattle.pl_text.proofs.Splits.{HasFirst, has_first}
 
 -- the items before and those of the lines, by the place of the first bad one
 abbrev pub by_place : {A : Type 0} → ℕ → List A → List (Line A) → Option ℕ → Result (List A) CommandsError

@@ -4,8 +4,8 @@ use Rattle.tpm_model.specs.declared.command.Command.{Command}
 use Rattle.tpm_commands.specs.declared.error.CommandsError.{CommandsError}
 use Rattle.tpm_commands.specs.CommandLine.{command_of_words}
 use Rattle.tpm_commands.specs.File.{items_of, line_of, lines_of}
-use Rattle.tpm_commands.specs.Parts.{parts_of}
-use Rattle.tpm_commands.specs.Values.{◌>>=◌, number_up_to}
+use Rattle.pl_text.specs.Parts.{parts_of}
+use Rattle.pl_text.specs.Words.{◌>>=◌, number_up_to}
 
 -- the client of a number below that of the clients
 abbrev pub client_of : ℕ → List ℕ → Option ℕ

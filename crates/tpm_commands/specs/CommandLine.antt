@@ -7,8 +7,9 @@ use Rattle.tpm_model.specs.declared.command.Command.TheVariants as command
 use Rattle.tpm_commands.specs.declared.verb.Verb.{Verb}
 use Rattle.tpm_commands.specs.declared.verb.Verb.TheVariants as verb
 use Rattle.tpm_commands.specs.Digests.{digests_of}
-use Rattle.tpm_commands.specs.Parts.{parts_of, one_of, two_of, three_of, four_of}
-use Rattle.tpm_commands.specs.Values.{◌>>=◌, bank_of, banks_of, bytes_of, group_of, handle_of, number_up_to, pcrs_of, policy_of, small_of}
+use Rattle.pl_text.specs.Parts.{parts_of, one_of, two_of, three_of, four_of}
+use Rattle.pl_text.specs.Words.{◌>>=◌, bank_of, banks_of, bytes_of, handle_of, number_up_to}
+use Rattle.tpm_commands.specs.Values.{group_of, pcrs_of, policy_of, small_of}
 use Rattle.tpm_commands.specs.Verbs.{verb_of}
 
 -- the one argument, a handle

@@ -9,8 +9,8 @@ use Rattle.hash_bank.specs.declared.bank.Bank.TheVariants.{Sha1, Sha256, Sha384,
 use Rattle.hash_bank.specs.declared.digests.Digests.{Digests}
 use Rattle.hash_bank.specs.Digests.{digest_at}
 use Rattle.hash_bank.specs.Hash.{size_in}
-use Rattle.tpm_commands.specs.Parts.{parts_of, two_of}
-use Rattle.tpm_commands.specs.Values.{◌>>=◌, bank_of, bytes_of}
+use Rattle.pl_text.specs.Parts.{parts_of, two_of}
+use Rattle.pl_text.specs.Words.{◌>>=◌, bank_of, bytes_of}
 
 -- bytes of this length
 abbrev pub Sized : ℕ → Type 0

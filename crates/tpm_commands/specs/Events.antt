@@ -7,8 +7,8 @@ use Rattle.tpm_commands.specs.declared.event.EventLine.TheVariants as event
 use Rattle.tpm_commands.specs.Clients.{client_of}
 use Rattle.tpm_commands.specs.CommandLine.{command_of_words}
 use Rattle.tpm_commands.specs.File.{Line, PassedOver, Spelled, Bad, items_of, line_of, lines_of}
-use Rattle.tpm_commands.specs.Parts.{parts_of, one_of, two_of}
-use Rattle.tpm_commands.specs.Values.{◌>>=◌, bytes_of}
+use Rattle.pl_text.specs.Parts.{parts_of, one_of, two_of}
+use Rattle.pl_text.specs.Words.{◌>>=◌, bytes_of}
 
 -- a path has at least one byte, and is UTF-8
 abbrev pub path_of : List ℕ → Option (List ℕ)

@@ -6,7 +6,7 @@ use Rattle.tpm_model.specs.declared.command.Command.{Command}
 use Rattle.tpm_commands.specs.declared.error.CommandsError.{CommandsError}
 use Rattle.tpm_commands.specs.declared.error.CommandsError.TheVariants.{BadLine, TooMany}
 use Rattle.tpm_commands.specs.CommandLine.{command_of}
-use Rattle.tpm_commands.specs.Parts.{parts_of}
+use Rattle.pl_text.specs.Parts.{parts_of}
 
 -- all but an empty last part
 abbrev pub without_last_empty : List (List ℕ) → List (List ℕ)

@@ -1,4 +1,5 @@
 pub mod Parts
+pub mod Left
 pub mod Values
 pub mod Digests
 pub mod Verbs
@@ -7,7 +8,5 @@ pub mod File
 pub mod Clients
 pub mod Events
 pub mod Walk
-pub mod Plain
-pub mod Left
 pub mod Answers
 pub mod Responses

@@ -7,6 +7,7 @@ use Rattle.hex.specs.Hex.{encode_lower}
 use Rattle.hash_bank.specs.declared.bank.Bank.{Bank}
 use Rattle.hash_bank.specs.Hash.{name_in}
 use Rattle.nv_index.specs.declared.index.NvPublic.{NvPublic}
+use Rattle.pl_text.specs.Texts.{handle_text}
 use Rattle.tpm_model.specs.declared.response.Counter.TheVariants as counter
 use Rattle.tpm_model.specs.declared.response.Refusal.{Refusal}
 use Rattle.tpm_model.specs.declared.response.Refusal.TheVariants as refusal
@@ -16,10 +17,6 @@ use Rattle.tpm_model.specs.declared.response.Response.TheVariants as answer
 -- the line feed at the end of each line
 abbrev pub line_end : List ℕ
 line_end = 10 ∷ []
-
--- a handle, or attributes, as eight digits
-abbrev pub handle_text : ℕ → List ℕ
-handle_text handle = encode_lower (to_be_bytes w32 handle)
 
 -- a word, and bytes
 abbrev pub bytes_text : List ℕ → List ℕ → List ℕ

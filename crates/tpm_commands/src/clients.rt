@@ -5,8 +5,9 @@ ghost use Rattle.tpm_commands.specs.Clients.{client_command_of, client_commands_
 
 use crate::grammar::Grammar;
 use crate::lines::read_lines;
-use crate::{CommandsError, cut, read_command, read_number};
+use crate::{CommandsError, read_command};
 use pl_base::{List, Memory};
+use pl_text::{cut, read_number};
 use std::alloc::Global;
 use tpm_model::Command;
 

@@ -1,33 +1,32 @@
 //! The command that a line spells.
 ghost use Rattle.std.specs.Prelude.{◌≡◌};
 ghost use Rattle.tpm_commands.specs.CommandLine.{command_of, command_with, nv_define_of, nv_write_of, one_handle, pcr_extend_of, pcr_read_of, policy_or_of, policy_pcr_of, restart_of, seal_of, start_session_of, two_handles};
-ghost use Rattle.tpm_commands.specs.Parts.{parts_behind};
+ghost use Rattle.pl_text.specs.Parts.{parts_behind};
 
-use crate::cut;
 use crate::digests::read_digests;
 use crate::group::read_group;
-use crate::values::{
-    read_bank, read_banks, read_digest, read_handle, read_number, read_pcrs, read_pin, read_policy,
-    read_small,
-};
+use crate::values::{read_pcrs, read_policy, read_small};
 use crate::verb::{Verb, read_verb};
-use crate::words::{four, one, three, two};
 use hash_bank::Bank;
 use nv_index::NvPublic;
+use pl_text::{
+    cut, four_parts, one_part, read_bank, read_banks, read_digest, read_handle, read_number,
+    read_pin, three_parts, two_parts,
+};
 use tpm_model::Command;
 
 // A handle.
 fn handle(words: Option<&[u8]>) -> Option<u32>
     ensures { result ≡ one_handle (parts_behind 32 words.entry) }
 {
-    read_handle(one(words, b' ')?)
+    read_handle(one_part(words, b' ')?)
 }
 
 // Two handles.
 fn handles(words: Option<&[u8]>) -> Option<(u32, u32)>
     ensures { result ≡ two_handles (parts_behind 32 words.entry) }
 {
-    let (first, second) = two(words, b' ')?;
+    let (first, second) = two_parts(words, b' ')?;
     let first = read_handle(first)?;
     let second = read_handle(second)?;
     Some((first, second))
@@ -37,7 +36,7 @@ fn handles(words: Option<&[u8]>) -> Option<(u32, u32)>
 fn restart(words: Option<&[u8]>) -> Option<Command>
     ensures { result ≡ restart_of (parts_behind 32 words.entry) }
 {
-    let (locality, banks) = two(words, b' ')?;
+    let (locality, banks) = two_parts(words, b' ')?;
     let locality = read_number(locality, 255)? as u8;
     let banks = read_banks(banks)?;
     Some(Command::Restart { locality, banks })
@@ -47,7 +46,7 @@ fn restart(words: Option<&[u8]>) -> Option<Command>
 fn pcr_extend(words: Option<&[u8]>) -> Option<Command>
     ensures { result ≡ pcr_extend_of (parts_behind 32 words.entry) }
 {
-    let (pcr, digests) = two(words, b' ')?;
+    let (pcr, digests) = two_parts(words, b' ')?;
     let pcr = read_number(pcr, 255)? as u8;
     let digests = read_digests(digests)?;
     Some(Command::PcrExtend { pcr, digests })
@@ -57,7 +56,7 @@ fn pcr_extend(words: Option<&[u8]>) -> Option<Command>
 fn pcr_read(words: Option<&[u8]>) -> Option<Command>
     ensures { result ≡ pcr_read_of (parts_behind 32 words.entry) }
 {
-    let (bank, pcr) = two(words, b' ')?;
+    let (bank, pcr) = two_parts(words, b' ')?;
     let bank = read_bank(bank)?;
     let pcr = read_number(pcr, 255)? as u8;
     Some(Command::PcrRead { bank, pcr })
@@ -70,7 +69,7 @@ fn start_session(words: Option<&[u8]>) -> Option<Command>
     if words.is_none() {
         return Some(Command::StartSession { hash: Bank::Sha256 });
     }
-    if one(words, b' ')? == b"sha384".as_slice() {
+    if one_part(words, b' ')? == b"sha384".as_slice() {
         Some(Command::StartSession { hash: Bank::Sha384 })
     } else {
         None
@@ -81,7 +80,7 @@ fn start_session(words: Option<&[u8]>) -> Option<Command>
 fn policy_pcr(words: Option<&[u8]>) -> Option<Command>
     ensures { result ≡ policy_pcr_of (parts_behind 32 words.entry) }
 {
-    let (session, bank, pcrs) = three(words, b' ')?;
+    let (session, bank, pcrs) = three_parts(words, b' ')?;
     let session = read_handle(session)?;
     let bank = read_bank(bank)?;
     let pcrs = read_pcrs(pcrs)?;
@@ -96,7 +95,7 @@ fn policy_pcr(words: Option<&[u8]>) -> Option<Command>
 fn policy_or(words: Option<&[u8]>) -> Option<Command>
     ensures { result ≡ policy_or_of (parts_behind 32 words.entry) }
 {
-    let (session, list) = two(words, b' ')?;
+    let (session, list) = two_parts(words, b' ')?;
     let session = read_handle(session)?;
     let list = read_group(list)?;
     Some(Command::PolicyOr { session, list })
@@ -106,7 +105,7 @@ fn policy_or(words: Option<&[u8]>) -> Option<Command>
 fn nv_define(words: Option<&[u8]>) -> Option<Command>
     ensures { result ≡ nv_define_of (parts_behind 32 words.entry) }
 {
-    let (index, attributes, policy, size) = four(words, b' ')?;
+    let (index, attributes, policy, size) = four_parts(words, b' ')?;
     let public = NvPublic {
         handle: read_handle(index)?,
         attributes: read_handle(attributes)?,
@@ -120,7 +119,7 @@ fn nv_define(words: Option<&[u8]>) -> Option<Command>
 fn nv_write(words: Option<&[u8]>) -> Option<Command>
     ensures { result ≡ nv_write_of (parts_behind 32 words.entry) }
 {
-    let (index, pin, value) = three(words, b' ')?;
+    let (index, pin, value) = three_parts(words, b' ')?;
     let index = read_handle(index)?;
     let pin = read_pin(pin)?;
     let value = read_small(value)?;
@@ -131,7 +130,7 @@ fn nv_write(words: Option<&[u8]>) -> Option<Command>
 fn seal(words: Option<&[u8]>) -> Option<Command>
     ensures { result ≡ seal_of (parts_behind 32 words.entry) }
 {
-    let (policy, secret) = two(words, b' ')?;
+    let (policy, secret) = two_parts(words, b' ')?;
     let policy = read_policy(policy)?;
     let secret = read_small(secret)?;
     Some(Command::Seal { policy, secret })

@@ -3,10 +3,8 @@ ghost use Rattle.std.specs.Prelude.{◌≡◌, length, slice_set, Some};
 ghost use Rattle.hash_bank.specs.Hash.{size_in};
 ghost use Rattle.tpm_commands.specs.Digests.{digests_of, listed, no_digests, place_in, with_spelled};
 
-use crate::cut;
-use crate::values::{read_bank, read_digest};
-use crate::words::two;
 use hash_bank::{Bank, Digest, Digests};
+use pl_text::{cut, read_bank, read_digest, two_parts};
 
 // No digest.
 fn no_digests() -> Digests
@@ -37,7 +35,7 @@ fn set_digest(digests: &mut Digests, bank: Bank, digest: &Digest)
 fn with_spelled(digests: Digests, text: &[u8]) -> Option<Digests>
     ensures { result ≡ with_spelled digests text.now }
 {
-    let (name, digest) = two(Some(text), b':')?;
+    let (name, digest) = two_parts(Some(text), b':')?;
     let bank = read_bank(name)?;
     if digests.get(bank).is_some() {
         return None;

@@ -1,12 +1,12 @@
 //! The event of a race that a line spells.
 ghost use Rattle.std.specs.Prelude.{◌≡◌, option_map, IfOk};
 ghost use Rattle.tpm_commands.specs.Events.{event_of, path_of, step_of, stranger_of, update_of};
-ghost use Rattle.tpm_commands.specs.Parts.{parts_behind};
+ghost use Rattle.pl_text.specs.Parts.{parts_behind};
 
 use crate::clients::read_client;
-use crate::words::{one, two};
-use crate::{cut, read_command, read_pin};
+use crate::read_command;
 use pl_base::{Memory, Name};
+use pl_text::{cut, one_part, read_pin, two_parts};
 use std::alloc::Global;
 use std::str;
 use tpm_model::Command;
@@ -31,7 +31,7 @@ pub enum EventLine {
 fn step(words: Option<&[u8]>, clients: u32) -> Option<EventLine>
     ensures { result ≡ step_of clients (parts_behind 32 words.entry) }
 {
-    let client = read_client(one(words, b' ')?, clients)?;
+    let client = read_client(one_part(words, b' ')?, clients)?;
     Some(EventLine::Step(client))
 }
 
@@ -61,7 +61,7 @@ fn read_path(word: &[u8]) -> Option<&str>
 fn update(alloc: Global, words: Option<&[u8]>) -> Result<Option<EventLine>, Memory>
     ensures { IfOk result (λ event. event ≡ update_of (parts_behind 32 words.entry)) }
 {
-    let Some((pin, path)) = two(words, b' ') else {
+    let Some((pin, path)) = two_parts(words, b' ') else {
         return Ok(None);
     };
     let Some(pin) = read_pin(pin) else {

@@ -1,9 +1,9 @@
 ghost use Rattle.std.specs.Prelude.{◌≡◌};
 ghost use Rattle.tpm_commands.specs.Values.{group_of};
 
-use crate::cut;
 use crate::values::read_policy;
 use hash_bank::{Bank, Digest};
+use pl_text::cut;
 use policy_digest::Group;
 
 // The most digests of one list (TPM 2.0 Library Part 2, TPML_DIGEST).

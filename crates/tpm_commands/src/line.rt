@@ -2,7 +2,7 @@
 ghost use Rattle.std.specs.Prelude.{◌≡◌, ◌<◌, ◌∷◌, length};
 ghost use Rattle.tpm_commands.specs.File.{is_passed_over, lines_of};
 
-use crate::cut;
+use pl_text::cut;
 
 /// The first line of a text, without its line feed, and the text behind it. The last line may lack its
 /// line feed.

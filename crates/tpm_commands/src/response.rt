@@ -1,46 +1,13 @@
 //! The lines that tell the TPM's answers.
 ghost use Rattle.std.specs.Prelude.{◌≡◌, ◌≤◌, ◌++◌, length, codes, IfOk, OnOk};
-ghost use Rattle.std.specs.Fmt.{decimal};
-ghost use Rattle.hex.specs.Hex.{encode_lower};
 ghost use Rattle.tpm_commands.specs.Responses.{bank_absent_text, bytes_text, pcr_changed_text, public_text, refusal_text, response_text, two_bytes_text};
 
 use hash_bank::Bank;
 use nv_index::NvPublic;
 use pl_base::Memory;
+use pl_text::{push, push_handle, push_hex, push_number};
 use std::alloc::Global;
 use tpm_model::{Counter, Refusal, Response};
-
-// The most bytes that are printed at once.
-const ROOM: usize = 128;
-
-// Puts bytes at the end of a text.
-fn push(text: &mut Vec<u8>, bytes: &[u8]) -> Result<(), Memory>
-    ensures { OnOk result (text.new.items ≡ text.old.items ++ bytes.now) }
-{
-    text.extend_from_slice(bytes)?;
-    Ok(())
-}
-
-// Puts the hexadecimal digits of bytes at the end of a text.
-fn push_hex(text: &mut Vec<u8>, bytes: &[u8]) -> Result<(), Memory>
-    requires { length bytes.now ≤ 128 }
-    ensures { OnOk result (text.new.items ≡ text.old.items ++ encode_lower bytes.now) }
-{
-    let mut room = [0u8; 2 * ROOM];
-    let digits = &mut room[..2 * bytes.len()];
-    let Ok(()) = hex::encode_to_slice(bytes, digits) else {
-        unreachable!();
-    };
-    push(text, digits)
-}
-
-// Puts the decimal digits of a number at the end of a text.
-fn push_number(alloc: Global, text: &mut Vec<u8>, number: u32) -> Result<(), Memory>
-    ensures { OnOk result (text.new.items ≡ text.old.items ++ decimal number) }
-{
-    let digits = format!(in alloc; "{number}")?;
-    push(text, digits.as_bytes())
-}
 
 // Puts a word and bytes at the end of a text, as a line.
 fn push_bytes_line(text: &mut Vec<u8>, word: &[u8], bytes: &[u8]) -> Result<(), Memory>
@@ -77,9 +44,9 @@ fn push_public(alloc: Global, text: &mut Vec<u8>, public: &NvPublic) -> Result<(
     ensures { OnOk result (text.new.items ≡ text.old.items ++ public_text public.now) }
 {
     push(text, b"public ")?;
-    push_hex(text, &public.handle.to_be_bytes())?;
+    push_handle(text, public.handle)?;
     push(text, b" ")?;
-    push_hex(text, &public.attributes.to_be_bytes())?;
+    push_handle(text, public.attributes)?;
     push(text, b" ")?;
     push_hex(text, public.policy.as_slice())?;
     push(text, b" ")?;

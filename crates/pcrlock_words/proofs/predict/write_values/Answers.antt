@@ -1,7 +1,7 @@
 use Rattle.std.proofs.Common.{string_bytes}
 use Rattle.std.specs.Prelude.{codes}
 use Rattle.hex.specs.Hex.{encode_lower}
-use Rattle.pcrlock_answer.proofs.Joins.{between_written}
+use Rattle.pl_text.proofs.Joins.{between_written}
 use Rattle.pcrlock_words.proofs.predict.write_values.Goals as goal
 
 pub returns : goal.returns

@@ -1,6 +1,6 @@
 use Rattle.std.proofs.Common.{◌≡◌}
-use Rattle.tpm_commands.specs.Left.{left_in}
-use Rattle.tpm_commands.specs.Parts.{parts_behind}
+use Rattle.pl_text.specs.Left.{left_in}
+use Rattle.pl_text.specs.Parts.{parts_behind}
 use Rattle.tpm_commands.specs.Digests.{digests_of, with_all}
 use Rattle.tpm_commands.proofs.digests.read_digests.Given as goal
 

@@ -1,5 +1,5 @@
 use Rattle.std.proofs.Common.{◌≡◌, take, length}
-use Rattle.tpm_commands.specs.Parts.{parts_behind}
+use Rattle.pl_text.specs.Parts.{parts_behind}
 use Rattle.tpm_commands.specs.Values.{group_of}
 use Rattle.tpm_commands.proofs.Groups.{group_from}
 use Rattle.tpm_commands.proofs.group.read_group.Given as goal

@@ -1,5 +1,5 @@
 use Rattle.std.proofs.Common.{◌∷◌, ap, ◌∙◌}
-use Rattle.tpm_commands.specs.Parts.{parts_behind}
+use Rattle.pl_text.specs.Parts.{parts_behind}
 use Rattle.tpm_commands.proofs.Walks.{line_alone, lines_with}
 use Rattle.tpm_commands.proofs.line.next_line.Goals as goal
 
