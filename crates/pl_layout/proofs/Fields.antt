@@ -1,11 +1,11 @@
 -- A field that is read is the field that was written, and what was written is read again.
 use Rattle.std.proofs.Common.{◌≡◌, ℕ, suc, ◌+◌, ◌^◌, ◌<◌, ◌≤◌, false, ltb, List, [], ◌∷◌, ◌++◌, length, get_or, take, drop, refl, sym, ap, subst, ◌∙◌, append_assoc, arith, inl, inr}
 use Rattle.std.specs.Prelude.{Result, Ok}
-use Rattle.std.specs.Int.{Width, w16, w32, byte_len, from_be_bytes, to_be_bytes}
+use Rattle.std.specs.Int.{Width, w16, w32, byte_len, from_be_bytes, to_be_bytes, from_le_bytes, to_le_bytes}
 use Rattle.std.proofs.lemmas.Bool.{cases_lt, ltb-false, le-ltb}
 use Rattle.std.proofs.lemmas.List.{take_at, drop_at, take-append-drop, length-append, length-take, get_or-drop, get_or-take, get_or_past}
-use Rattle.std.proofs.lemmas.Nat.{be_bytes_2, be_bytes_4, from_be_bytes-to_be_bytes_2, from_be_bytes-to_be_bytes_4}
-use Rattle.pl_layout.specs.Reading.{bytes_at, number_at, byte_at}
+use Rattle.std.proofs.lemmas.Nat.{be_bytes_2, be_bytes_4, from_be_bytes-to_be_bytes_2, from_be_bytes-to_be_bytes_4, le_bytes_2, le_bytes_4, from_le_bytes-to_le_bytes_2, from_le_bytes-to_le_bytes_4}
+use Rattle.pl_layout.specs.Reading.{bytes_at, coded_at, byte_at}
 use Rattle.pl_layout.proofs.Steps.{passed_over, ok_is}
 
 -- ---- bytes
@@ -83,13 +83,14 @@ bytes_grammar fault n = record {
 
 -- ---- numbers
 
-pub record IsWide (w : Width) (limit : ℕ) : Type 0 where
-  pub len : (n : ℕ) → length (to_be_bytes w n) ≡ byte_len w
-  pub back : (bytes : List ℕ) → length bytes ≡ byte_len w → IsBytes bytes → to_be_bytes w (from_be_bytes w bytes) ≡ bytes
-  pub again : (n : ℕ) → n < limit → from_be_bytes w (to_be_bytes w n) ≡ n
-  pub below : (bytes : List ℕ) → IsBytes bytes → from_be_bytes w bytes < limit
+-- an order of bytes in which the numbers below a limit are written and read
+pub record IsWide (w : Width) (limit : ℕ) (from : List ℕ → ℕ) (to : ℕ → List ℕ) : Type 0 where
+  pub len : (n : ℕ) → length (to n) ≡ byte_len w
+  pub back : (bytes : List ℕ) → length bytes ≡ byte_len w → IsBytes bytes → to (from bytes) ≡ bytes
+  pub again : (n : ℕ) → n < limit → from (to n) ≡ n
+  pub below : (bytes : List ℕ) → IsBytes bytes → from bytes < limit
 
-pub wide16 : IsWide w16 (2 ^ 16)
+pub wide16 : IsWide w16 (2 ^ 16) (from_be_bytes w16) (to_be_bytes w16)
 wide16 = record {
   len = λ n. refl;
   back = λ bytes len fits. be_bytes_2 bytes _ len fits refl;
@@ -97,7 +98,7 @@ wide16 = record {
   below = λ bytes fits. omega (arith, fits 0, fits 1);
 }
 
-pub wide32 : IsWide w32 (2 ^ 32)
+pub wide32 : IsWide w32 (2 ^ 32) (from_be_bytes w32) (to_be_bytes w32)
 wide32 = record {
   len = λ n. refl;
   back = λ bytes len fits. be_bytes_4 bytes _ len fits refl;
@@ -105,23 +106,41 @@ wide32 = record {
   below = λ bytes fits. omega (arith, fits 0, fits 1, fits 2, fits 3);
 }
 
-number_takes : {E : Type 0} {w : Width} {limit : ℕ} (wide : IsWide w limit) (fault : List ℕ → E) (bytes : List ℕ) (x : ℕ × List ℕ) → IsBytes bytes → number_at fault w bytes ≡ Ok x → Taken (to_be_bytes w) (λ n. n < limit) bytes x
-number_takes {w = w} {limit = limit} wide fault bytes x fits e =
+-- the lowest byte first
+pub little16 : IsWide w16 (2 ^ 16) (from_le_bytes w16) (to_le_bytes w16)
+little16 = record {
+  len = λ n. refl;
+  back = λ bytes len fits. le_bytes_2 bytes _ len fits refl;
+  again = λ n lt. from_le_bytes-to_le_bytes_2 n lt;
+  below = λ bytes fits. omega (arith, fits 0, fits 1);
+}
+
+pub little32 : IsWide w32 (2 ^ 32) (from_le_bytes w32) (to_le_bytes w32)
+little32 = record {
+  len = λ n. refl;
+  back = λ bytes len fits. le_bytes_4 bytes _ len fits refl;
+  again = λ n lt. from_le_bytes-to_le_bytes_4 n lt;
+  below = λ bytes fits. omega (arith, fits 0, fits 1, fits 2, fits 3);
+}
+
+number_takes : {E : Type 0} {w : Width} {limit : ℕ} {from : List ℕ → ℕ} {to : ℕ → List ℕ} (wide : IsWide w limit from to) (fault : List ℕ → E) (bytes : List ℕ) (x : ℕ × List ℕ) → IsBytes bytes → coded_at fault from w bytes ≡ Ok x
+    → Taken to (λ n. n < limit) bytes x
+number_takes {w = w} {limit = limit} {from = from} {to = to} wide fault bytes x fits e =
     let g = passed_over _ e in
     let long : byte_len w ≤ length bytes = ltb-false _ _ g.0 in
-    let front : to_be_bytes w (from_be_bytes w (take (byte_len w) bytes)) ≡ take (byte_len w) bytes = wide.back (take (byte_len w) bytes) (omega (arith, length-take (byte_len w) bytes)) (IsBytes-take (byte_len w) bytes fits) in
-    subst (λ (y : ℕ × List ℕ). Taken (to_be_bytes w) (λ n. n < limit) bytes y) (ok_is (from_be_bytes w (take (byte_len w) bytes), drop (byte_len w) bytes) x g.1) (record {
+    let front : to (from (take (byte_len w) bytes)) ≡ take (byte_len w) bytes = wide.back (take (byte_len w) bytes) (omega (arith, length-take (byte_len w) bytes)) (IsBytes-take (byte_len w) bytes fits) in
+    subst (λ (y : ℕ × List ℕ). Taken to (λ n. n < limit) bytes y) (ok_is (from (take (byte_len w) bytes), drop (byte_len w) bytes) x g.1) (record {
       takes = record { parts = rw front (sym (take-append-drop (byte_len w) bytes)); rest_fits = IsBytes-drop (byte_len w) bytes fits };
       fits = wide.below (take (byte_len w) bytes) (IsBytes-take (byte_len w) bytes fits);
     })
 
-number_again : {E : Type 0} {w : Width} {limit : ℕ} (wide : IsWide w limit) (fault : List ℕ → E) (n : ℕ) (rest : List ℕ) → n < limit → number_at fault w (to_be_bytes w n ++ rest) ≡ Ok (n, rest)
-number_again {w = w} wide fault n rest lt =
+number_again : {E : Type 0} {w : Width} {limit : ℕ} {from : List ℕ → ℕ} {to : ℕ → List ℕ} (wide : IsWide w limit from to) (fault : List ℕ → E) (n : ℕ) (rest : List ℕ) → n < limit → coded_at fault from w (to n ++ rest) ≡ Ok (n, rest)
+number_again {w = w} {to = to} wide fault n rest lt =
     let len = wide.len n in
-    let long : ltb (length (to_be_bytes w n ++ rest)) (byte_len w) ≡ false = le-ltb _ _ (omega (arith, length-append (to_be_bytes w n) rest)) in
-    rw (long, take_at (to_be_bytes w n) rest (byte_len w) len, drop_at (to_be_bytes w n) rest (byte_len w) len, wide.again n lt) refl
+    let long : ltb (length (to n ++ rest)) (byte_len w) ≡ false = le-ltb _ _ (omega (arith, length-append (to n) rest)) in
+    rw (long, take_at (to n) rest (byte_len w) len, drop_at (to n) rest (byte_len w) len, wide.again n lt) refl
 
-pub number_grammar : {E : Type 0} {w : Width} {limit : ℕ} → IsWide w limit → (fault : List ℕ → E) → Grammar (number_at fault w) (to_be_bytes w) (λ n. n < limit)
+pub number_grammar : {E : Type 0} {w : Width} {limit : ℕ} {from : List ℕ → ℕ} {to : ℕ → List ℕ} → IsWide w limit from to → (fault : List ℕ → E) → Grammar (coded_at fault from w) to (λ n. n < limit)
 number_grammar wide fault = record {
   takes = λ bytes x fits e. number_takes wide fault bytes x fits e;
   again = λ n rest lt. number_again wide fault n rest lt;
@@ -135,3 +154,13 @@ pub byte_takes : {E : Type 0} (fault : List ℕ → E) (bytes : List ℕ) (x : �
 byte_takes fault [] x fits e = absurd cc
 byte_takes fault (b ∷ bytes) x fits e =
     subst (λ (y : ℕ × List ℕ). Takes (b ∷ bytes) (byte_text y.0) y.1) (ok_is (b, bytes) x e) (Takes-byte b bytes (IsBytes-rest b bytes fits))
+
+byte_below : {E : Type 0} (fault : List ℕ → E) (bytes : List ℕ) (x : ℕ × List ℕ) → IsBytes bytes → byte_at fault bytes ≡ Ok x → x.0 < 256
+byte_below fault [] x fits e = absurd cc
+byte_below fault (b ∷ bytes) x fits e = subst (λ (y : ℕ × List ℕ). y.0 < 256) (ok_is (b, bytes) x e) (fits 0)
+
+pub byte_grammar : {E : Type 0} (fault : List ℕ → E) → Grammar (byte_at fault) byte_text (λ b. b < 256)
+byte_grammar fault = record {
+  takes = λ bytes x fits e. (record { takes = byte_takes fault bytes x fits e; fits = byte_below fault bytes x fits e });
+  again = λ b rest lt. refl;
+}

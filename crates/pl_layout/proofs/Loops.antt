@@ -1,7 +1,8 @@
 -- One step of a loop that reads items, as reading says it.
 use Rattle.std.proofs.Common.{◌≡◌, ℕ, suc, ◌-◌, ◌+◌, ◌≤◌, ◌<◌, List, [], ◌∷◌, ◌++◌, refl, sym, ◌∙◌, arith}
-use Rattle.std.specs.Prelude.{Result, Ok}
+use Rattle.std.specs.Prelude.{Result, Ok, Err}
 use Rattle.pl_layout.specs.Reading.{◌>>=◌, repeat_at}
+use Rattle.pl_layout.proofs.Steps.{bind_err}
 
 -- an item and the rest
 pub repeat_step : {E A : Type 0} (item : List A → List ℕ → Result (A × List ℕ) E) (count i : ℕ) (before : List A) (bytes : List ℕ) → i < count
@@ -17,6 +18,11 @@ pub go_on : {E A : Type 0} (item : List A → List ℕ → Result (A × List ℕ
 go_on item count i before bytes a after total lt so_far h =
     let one : repeat_at item (count - i) before bytes ≡ repeat_at item (count - (i + 1)) (before ++ a ∷ []) after = repeat_step item count i before bytes lt ∙ rw h refl in
     sym one ∙ so_far
+
+-- the fault of an item is that of all
+pub fall : {E A : Type 0} (item : List A → List ℕ → Result (A × List ℕ) E) (count i : ℕ) (before : List A) (bytes : List ℕ) (d : E) (total : Result (List A × List ℕ) E) → i < count
+    → repeat_at item (count - i) before bytes ≡ total → item before bytes ≡ Err d → total ≡ Err d
+fall item count i before bytes d total lt so_far h = sym so_far ∙ repeat_step item count i before bytes lt ∙ bind_err _ d h
 
 -- all were read
 pub finish : {E A : Type 0} (item : List A → List ℕ → Result (A × List ℕ) E) (count i : ℕ) (before : List A) (bytes : List ℕ) (total : Result (List A × List ℕ) E) → count ≤ i

@@ -16,6 +16,10 @@ bind_ok {r = Err d} e = absurd cc
 pub bind_eq : {E A B : Type 0} {r : Result A E} {y : Result B E} (f : A → Result B E) (x : A) → r ≡ Ok x → f x ≡ y → (r >>= f) ≡ y
 bind_eq f x e d = ap (λ s. s >>= f) e ∙ d
 
+-- a step at fault is the fault of all
+pub bind_err : {E A B : Type 0} {r : Result A E} (f : A → Result B E) (d : E) → r ≡ Err d → (r >>= f) ≡ Err d
+bind_err f d e = ap (λ s. s >>= f) e
+
 -- one of the two cases of a test
 pub on_test : {A : Type 0} (b : Bool) {x y z : A} → cond b x y ≡ z → ((b ≡ true) × (x ≡ z)) ⊎ ((b ≡ false) × (y ≡ z))
 on_test true e = inl (refl, e)

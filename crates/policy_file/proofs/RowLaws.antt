@@ -21,7 +21,7 @@ use Rattle.policy_file.specs.declared.version.Version.{Version}
 use Rattle.policy_file.specs.declared.version.Version.TheVariants.{One, Two}
 use Rattle.policy_file.specs.PolicyText.{mask_text, row_text}
 use Rattle.policy_file.specs.PolicyReading.{fault, follows, list_at, lists_number_at, mask_at, pcrs_at, row_at, values_at}
-use Rattle.policy_file.proofs.Masks.{alone, one_of}
+use Rattle.policy_digest.proofs.MaskLists.{alone, one_of}
 use Rattle.policy_file.proofs.Pairs.{Behind, all_paired, paired_all}
 
 pub both : (a b : Bool) → a ≡ true → b ≡ true → (a && b) ≡ true

@@ -21,7 +21,7 @@ use Rattle.policy_file.specs.declared.policy.Policy.{Policy}
 use Rattle.policy_file.specs.declared.version.Version.{Version}
 use Rattle.policy_file.specs.declared.version.Version.TheVariants.{One, Two}
 use Rattle.policy_file.specs.PolicyText.{IsPolicy, mask_text, policy_magic, policy_text, row_text, table_text, version_of}
-use Rattle.policy_file.proofs.Masks.{few_listed}
+use Rattle.policy_digest.proofs.MaskLists.{few_listed}
 use Rattle.policy_file.proofs.RowLaws.{row_parts}
 use Rattle.policy_file.proofs.TableLaws.{table_parts}
 

@@ -1,12 +1,12 @@
 -- Reading a policy file field by field, from left to right. The first field that is cut or has no allowed
 -- value is the fault.
-use Rattle.std.specs.Prelude.{◌≡◌, ℕ, ◌-◌, ◌^◌, min, nat_le, nat_lt, ◌==◌, ◌&&◌, not, Bool, true, List, [], length, Option, Some, None, Result, Ok, Err, if◌then◌else◌}
+use Rattle.std.specs.Prelude.{◌≡◌, ℕ, ◌^◌, nat_le, nat_lt, ◌==◌, ◌&&◌, not, Bool, true, List, [], length, Option, Some, None, Result, Ok, Err, if◌then◌else◌}
 use Rattle.std.specs.Int.{w16, w32}
 use Rattle.std.specs.List.{list_all}
 use Rattle.std.specs.Str.{bytes_eq}
 use Rattle.hash_bank.specs.declared.bank.Bank.{Bank}
 use Rattle.hash_bank.specs.Hash.{size_in, bank_of_algorithm}
-use Rattle.pl_layout.specs.Reading.{◌>>=◌, bytes_at, number_at, byte_at, tested, repeat_at}
+use Rattle.pl_layout.specs.Reading.{◌>>=◌, place, bytes_at, number_at, byte_at, tested, repeat_at}
 use Rattle.policy_digest.specs.declared.table.Row.{Row}
 use Rattle.policy_digest.specs.declared.table.Table.{Table}
 use Rattle.policy_digest.specs.Mask.{pcrs_of}
@@ -29,10 +29,9 @@ abbrev pub Reads : {X Y : Type 0} → (X → Y) → Result X FileError → Resul
 Reads view (Ok x) read = read ≡ Ok (view x)
 Reads view (Err e) read = Fails e read
 
--- the fault of the field that begins with these bytes, the last of all that there are. No policy file
--- goes on so far that its place has no number of 32 bits
+-- the fault of the field that begins with these bytes, the last of all that there are
 abbrev pub fault : FileKind → ℕ → List ℕ → FileError
-fault kind all bytes = Malformed (min (all - length bytes) (2 ^ 32 - 1)) kind
+fault kind all bytes = Malformed (place all bytes) kind
 
 -- the version
 unfoldable pub version_at : ℕ → List ℕ → Result (Version × List ℕ) FileError

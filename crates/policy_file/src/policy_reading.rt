@@ -5,10 +5,11 @@ ghost use Rattle.policy_file.specs.PolicyText.{IsPolicy, policy_text};
 ghost use Rattle.policy_file.specs.PolicyReading.{Reads, body_at, needs, policy_in, version_at};
 
 use crate::error::{FileError, FileKind};
-use crate::left::{digest_of, fault_at, read_bytes, read_handle};
+use crate::left::{fault_at, read_handle};
 use crate::policy::Policy;
 use crate::tables::{are_single, read_tables};
 use crate::version::Version;
+use pl_layout::{digest_of, read_bytes};
 use policy_digest::Table;
 use std::alloc::Global;
 
@@ -29,7 +30,7 @@ const VERSION: u32 = 7;
 fn read_version(all: usize, bytes: &[u8]) -> Result<(Version, &[u8]), FileError>
     ensures { Reads (λ x. (x.0, x.1.now)) result (version_at all bytes.now) }
 {
-    let (magic, rest) = read_bytes(all, MAGIC_ONE.len(), bytes)?;
+    let (magic, rest) = read_bytes::<FileError>(all, MAGIC_ONE.len(), bytes)?;
     if magic == MAGIC_ONE.as_slice() {
         return Ok((Version::One, rest));
     }
@@ -50,7 +51,7 @@ fn read_body(
     ensures { Reads (λ x. (x.0, x.1.now)) result (body_at all version bytes.now) }
 {
     let (handle, rest) = read_handle(all, 0x0100_0000, 0x01ff_ffff, bytes)?;
-    let (index_policy, rest) = read_bytes(all, POLICY_SIZE, rest)?;
+    let (index_policy, rest) = read_bytes::<FileError>(all, POLICY_SIZE, rest)?;
     let (pin_object, rest) = read_handle(all, 0x8100_0000, 0x817f_ffff, rest)?;
     let (tables, rest) = read_tables(alloc, all, version, rest)?;
     let policy = Policy {

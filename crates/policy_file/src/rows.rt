@@ -10,12 +10,12 @@ ghost use Rattle.policy_file.specs.PolicyText.{alone_in, mask_text, row_text};
 ghost use Rattle.policy_file.specs.PolicyReading.{Reads, follows, list_at, mask_at, pcrs_at, row_at, values_at};
 
 use crate::error::{FileError, FileKind};
-use crate::left::{digest_of, fault_at, read_bank_bytes, read_lists_number, read_u8, read_u32};
+use crate::left::{fault_at, read_lists_number};
 use crate::version::Version;
 use hash_bank::{Bank, Digest};
 use pl_base::{List, Memory};
-use pl_layout::{put_u16, put_u32};
-use policy_digest::{Row, Values, is_in_mask, pcr_count};
+use pl_layout::{digest_of, put_u16, put_u32, read_bank_bytes, read_u8, read_u32};
+use policy_digest::{Row, Values, is_in_mask, mask_of_pcr, pcr_count};
 use std::alloc::Global;
 
 /// The number of PCRs of a TPM (TCG PC Client Platform TPM Profile).
@@ -23,17 +23,6 @@ const PCR_COUNT: u8 = 24;
 
 /// A mask of PCRs is below this.
 const MASK_END: u32 = 1 << 24;
-
-/// The mask of one PCR.
-#[tactic(auto, using(std::proofs::lemmas::Nat::pow_below, std::proofs::lemmas::Nat::pow_pos))]
-fn mask_of(pcr: u8) -> u32
-    requires { pcr ≤ 23 }
-    ensures value { result ≡ 2 ^ pcr }
-    ensures some { 0 < result }
-    ensures below { result < 2 ^ 24 }
-{
-    1 << pcr
-}
 
 /// The PCRs of a row, as a mask.
 #[tactic(auto, unfolding(crate::specs::PolicyReading::mask_at))]
@@ -44,14 +33,14 @@ fn read_mask(all: usize, version: Version, bytes: &[u8]) -> Result<(u32, &[u8]),
 {
     match version {
         Version::One => {
-            let (pcr, rest) = read_u8(all, bytes)?;
+            let (pcr, rest) = read_u8::<FileError>(all, bytes)?;
             if PCR_COUNT <= pcr {
                 return Err(fault_at(FileKind::Value, all, bytes));
             }
-            Ok((mask_of(pcr), rest))
+            Ok((mask_of_pcr(pcr), rest))
         }
         Version::Two => {
-            let (mask, rest) = read_u32(all, bytes)?;
+            let (mask, rest) = read_u32::<FileError>(all, bytes)?;
             if mask == 0 || MASK_END <= mask {
                 return Err(fault_at(FileKind::Value, all, bytes));
             }
@@ -94,7 +83,7 @@ fn read_pcrs<'a>(
 }
 
 /// The number of the PCRs of a mask.
-#[tactic(auto, using(crate::proofs::Masks::some_listed, crate::proofs::Masks::few_listed))]
+#[tactic(auto, using(policy_digest::proofs::MaskLists::some_listed, policy_digest::proofs::MaskLists::few_listed))]
 fn count_of(mask: u32) -> usize
     requires some { 0 < mask }
     requires below { mask < 2 ^ 24 }
@@ -120,7 +109,7 @@ fn read_values(
     let mut values = Vec::new(alloc);
     let mut rest = bytes;
     for _ in 0..count {
-        let (next, after) = read_bank_bytes(all, bank, rest)?;
+        let (next, after) = read_bank_bytes::<FileError>(all, bank, rest)?;
         values.push(digest_of(next))?;
         rest = after;
     }

@@ -4,6 +4,10 @@ use Rattle.std.specs.Prelude.{ok_or, IfOk}
 use Rattle.std.specs.List.{flat_map, AllByRecursion, list_all}
 use Rattle.std.specs.Int.{Width, w16, w32, to_le_bytes, byte_len}
 use Rattle.std.specs.Str.{bytes_eq}
+use Rattle.std.proofs.lemmas.Bool.{and_parts}
+use Rattle.pl_layout.specs.Reading.{◌>>=◌, bytes_at, little_at, byte_at, repeat_at, counted_at}
+use Rattle.pl_layout.proofs.Steps.{bind_ok, bind_eq, ok_is}
+use Rattle.tcg_log.specs.declared.error.LogKind.TheVariants.{Algorithms, Count}
 use Rattle.tcg_log.specs.declared.error.LogError.{LogError}
 use Rattle.tcg_log.specs.declared.error.LogError.TheVariants.{TooMany, Memory, Malformed}
 use Rattle.tcg_log.specs.declared.record.Tagged.{Tagged}
@@ -13,8 +17,7 @@ use Rattle.tcg_log.specs.declared.spec_id.SpecId.{SpecId}
 use Rattle.tcg_log.specs.declared.log.FirmwareLog.{FirmwareLog}
 use Rattle.tcg_log.specs.Text.{signature, event_size, spec_text, record_text, log_text}
 use Rattle.tcg_log.specs.Allowed.{is_named, size_fits, has_pcr, is_record, is_spec, is_log, IsBytes, RecordFits, LogFits, FirmwareText, HoldsMore, IsWritable}
-use Rattle.tcg_log.specs.Reading.{◌>>=◌, Gives, bytes_at, number_at, byte_at, constant_at, head_at, algorithm_at, algorithms_at, named_at, vendor_at, class_at, spec_at, tagged_at, digests_at, counted_at, event_at, record_at, records_at, log_at}
-use Rattle.tcg_log.proofs.Fields.{bind_ok, bind_eq, both, ok_is}
+use Rattle.tcg_log.specs.Reading.{Gives, cut, fault, constant_at, head_at, algorithm_at, named_at, vendor_at, class_at, spec_at, tagged_at, digests_at, event_at, record_at, records_at, log_at}
 use Rattle.tcg_log.proofs.SpecLaws.{spec_takes, spec_again, size_below}
 use Rattle.tcg_log.proofs.RecordLaws.{record_takes, records_take, records_again, records_over}
 
@@ -37,13 +40,13 @@ never_bind : {A B : Type 0} (r : Result A LogError) (f : A → Result B LogError
 never_bind (Ok x) f m n e = n x e
 never_bind (Err d) f m n e = m cc
 
-never_bytes : (all n : ℕ) (bytes : List ℕ) → Never (bytes_at all n bytes)
+never_bytes : (all n : ℕ) (bytes : List ℕ) → Never (bytes_at (cut all) n bytes)
 never_bytes all n bytes = never_if (ltb (length bytes) n) _ _ (never_malformed _ _) (never_ok _)
 
-never_number : (all : ℕ) (w : Width) (bytes : List ℕ) → Never (number_at all w bytes)
+never_number : (all : ℕ) (w : Width) (bytes : List ℕ) → Never (little_at (cut all) w bytes)
 never_number all w bytes = never_if (ltb (length bytes) (byte_len w)) _ _ (never_malformed _ _) (never_ok _)
 
-never_byte : (all : ℕ) (bytes : List ℕ) → Never (byte_at all bytes)
+never_byte : (all : ℕ) (bytes : List ℕ) → Never (byte_at (cut all) bytes)
 never_byte all [] = never_malformed _ _
 never_byte all (b ∷ bytes) = never_ok _
 
@@ -60,14 +63,19 @@ never_algorithm all before bytes =
     never_bind _ _ (never_number all w16 bytes) (λ number. never_if (is_named before number.0) _ _ (never_malformed _ _)
     (never_bind _ _ (never_number all w16 number.1) (λ size. never_if (size_fits number.0 size.0) _ _ (never_ok _) (never_malformed _ _))))
 
-never_algorithms : (all n : ℕ) (before : List Algorithm) (bytes : List ℕ) → Never (algorithms_at all n before bytes)
-unfolding algorithms_at
-never_algorithms all zero before bytes = never_ok _
-never_algorithms all (suc n) before bytes = never_bind _ _ (never_algorithm all before bytes) (λ a. never_algorithms all n (before ++ a.0 ∷ []) a.1)
+never_repeat : {A : Type 0} (item : List A → List ℕ → Result (A × List ℕ) LogError) → ((before : List A) (bytes : List ℕ) → Never (item before bytes)) → (n : ℕ) (before : List A) (bytes : List ℕ) → Never (repeat_at item n before bytes)
+unfolding repeat_at
+never_repeat item never zero before bytes = never_ok _
+never_repeat item never (suc n) before bytes = never_bind _ _ (never before bytes) (λ a. never_repeat item never n (before ++ a.0 ∷ []) a.1)
+
+never_counted : {A : Type 0} (item : List A → List ℕ → Result (A × List ℕ) LogError) → ((before : List A) (bytes : List ℕ) → Never (item before bytes)) → (all low high : ℕ) (kind : _) (bytes : List ℕ) → Never (counted_at (little_at (cut all) w32) low high (fault all kind) item bytes)
+unfolding counted_at
+never_counted item never all low high kind bytes =
+    never_bind _ _ (never_number all w32 bytes) (λ n. never_if (leb low n.0 && leb n.0 high) _ _ (never_repeat item never n.0 [] n.1) (never_malformed _ _))
 
 never_named : (all : ℕ) (bytes : List ℕ) → Never (named_at all bytes)
 unfolding named_at
-never_named all bytes = never_bind _ _ (never_number all w32 bytes) (λ n. never_if (leb 1 n.0 && leb n.0 16) _ _ (never_algorithms all n.0 [] n.1) (never_malformed _ _))
+never_named all bytes = never_counted (algorithm_at all) (never_algorithm all) all 1 16 Algorithms bytes
 
 never_vendor : (all size n : ℕ) (bytes : List ℕ) → Never (vendor_at all size n bytes)
 unfolding vendor_at
@@ -94,15 +102,9 @@ unfolding tagged_at
 never_tagged all algorithms before bytes =
     never_bind _ _ (never_number all w16 bytes) (λ number. never_bind _ _ (never_ok_or _ _ _) (λ size. never_bind _ _ (never_bytes all size number.1) (λ digest. never_ok _)))
 
-never_digests : (all : ℕ) (algorithms : List Algorithm) (n : ℕ) (before : List Tagged) (bytes : List ℕ) → Never (digests_at all algorithms n before bytes)
+never_digests : (all : ℕ) (algorithms : List Algorithm) (bytes : List ℕ) → Never (digests_at all algorithms bytes)
 unfolding digests_at
-never_digests all algorithms zero before bytes = never_ok _
-never_digests all algorithms (suc n) before bytes = never_bind _ _ (never_tagged all algorithms before bytes) (λ t. never_digests all algorithms n (before ++ t.0 ∷ []) t.1)
-
-never_counted : (all : ℕ) (algorithms : List Algorithm) (bytes : List ℕ) → Never (counted_at all algorithms bytes)
-unfolding counted_at
-never_counted all algorithms bytes =
-    never_bind _ _ (never_number all w32 bytes) (λ n. never_if (leb 1 n.0 && leb n.0 (length algorithms)) _ _ (never_digests all algorithms n.0 [] n.1) (never_malformed _ _))
+never_digests all algorithms bytes = never_counted (tagged_at all algorithms) (never_tagged all algorithms) all 1 (length algorithms) Count bytes
 
 never_event : (all : ℕ) (bytes : List ℕ) → Never (event_at all bytes)
 unfolding event_at
@@ -112,7 +114,7 @@ never_record : (all : ℕ) (algorithms : List Algorithm) (bytes : List ℕ) → 
 unfolding record_at
 never_record all algorithms bytes =
     never_bind _ _ (never_number all w32 bytes) (λ pcr. never_bind _ _ (never_number all w32 pcr.1) (λ kind. never_if (not (has_pcr kind.0 pcr.0)) _ _ (never_malformed _ _)
-    (never_bind _ _ (never_counted all algorithms kind.1) (λ digests. never_bind _ _ (never_event all digests.1) (λ event. never_ok _)))))
+    (never_bind _ _ (never_digests all algorithms kind.1) (λ digests. never_bind _ _ (never_event all digests.1) (λ event. never_ok _)))))
 
 -- ---- too many records
 
@@ -181,7 +183,7 @@ log_takes bytes log fits e =
 pub log_again : (log : FirmwareLog) → is_log log ≡ true → LogFits log → length log.records ≤ 16384 → log_at (log_text log) ≡ Ok log
 unfolding log_at
 log_again log allowed fits few =
-    let h = both (is_spec log.spec) (list_all (is_record log.spec.algorithms) log.records) allowed in
+    let h = and_parts (is_spec log.spec) (list_all (is_record log.spec.algorithms) log.records) allowed in
     let all = length (log_text log) in
     bind_eq _ (log.spec, flat_map record_text log.records) (spec_again all log.spec (flat_map record_text log.records) h.0 fits.spec)
     (bind_eq _ log.records (records_again all log.spec.algorithms 16384 [] log.records (size_below log.spec h.0).0 few h.1 fits.records) refl)
@@ -190,7 +192,7 @@ log_over : (log : FirmwareLog) (rest : List ℕ) → is_log log ≡ true → Log
 unfolding log_at
 log_over log [] allowed fits full more = absurd (omega arith)
 log_over log (b ∷ rest) allowed fits full more =
-    let h = both (is_spec log.spec) (list_all (is_record log.spec.algorithms) log.records) allowed in
+    let h = and_parts (is_spec log.spec) (list_all (is_record log.spec.algorithms) log.records) allowed in
     let all = length (spec_text log.spec ++ (flat_map record_text log.records ++ b ∷ rest)) in
     ap log_at (append_assoc (spec_text log.spec) (flat_map record_text log.records) (b ∷ rest))
     ∙ bind_eq _ (log.spec, flat_map record_text log.records ++ b ∷ rest) (spec_again all log.spec (flat_map record_text log.records ++ b ∷ rest) h.0 fits.spec)

@@ -4,18 +4,21 @@ use Rattle.std.specs.Prelude.{ok_or}
 use Rattle.std.specs.Option.{option_map_or}
 use Rattle.std.specs.List.{flat_map, AllByRecursion, list_all}
 use Rattle.std.specs.Int.{w16, w32, to_le_bytes}
-use Rattle.std.proofs.lemmas.Bool.{eqb-true, lt-ltb, ltb-true, leb-true}
+use Rattle.std.proofs.lemmas.Bool.{and_from, and_parts, not_from_true, not_from_false, not-true, not-false, eqb-true, lt-ltb, ltb-true, leb-true, le-leb}
 use Rattle.std.proofs.lemmas.List.{append-nil}
-use Rattle.tcg_log.specs.declared.error.LogKind.TheVariants.{DigestAlgorithm}
+use Rattle.pl_layout.proofs.Steps.{bind_ok, bind_eq, skip_test, passed_over, ok_is}
+use Rattle.pl_layout.proofs.Fields.{IsBytes, Takes, Takes-then, Taken, Grammar, bytes_take, bytes_again}
+use Rattle.pl_layout.proofs.Repeats.{GrammarBehind, CountedFits, counted_grammar, Passes, AsksEach, each_passes, passes_each}
+use Rattle.tcg_log.specs.declared.error.LogKind.TheVariants.{Count, DigestAlgorithm}
 use Rattle.tcg_log.specs.declared.error.LogError.{LogError}
 use Rattle.tcg_log.specs.declared.error.LogError.TheVariants.{TooMany}
 use Rattle.tcg_log.specs.declared.record.Tagged.{Tagged}
 use Rattle.tcg_log.specs.declared.record.FirmwareRecord.{FirmwareRecord}
 use Rattle.tcg_log.specs.declared.spec_id.Algorithm.{Algorithm}
 use Rattle.tcg_log.specs.Text.{tagged_text, digests_text, event_text, record_text}
-use Rattle.tcg_log.specs.Allowed.{size_named, is_tagged, are_digests, has_pcr, is_record, IsBytes, TaggedFits, RecordFits}
-use Rattle.tcg_log.specs.Reading.{fault, tagged_at, digests_at, counted_at, event_at, record_at, records_at}
-use Rattle.tcg_log.proofs.Fields.{bind_ok, bind_eq, skip_test, take_test, both, all_of, not_false, not_true, passed, passed_over, ok_is, Takes, Takes-then, bytes_take, bytes_again, wide16, wide32, number_takes, number_again}
+use Rattle.tcg_log.specs.Allowed.{size_named, is_tagged, tagged_fits, are_digests, has_pcr, is_record, TaggedFits, RecordFits}
+use Rattle.tcg_log.specs.Reading.{cut, fault, tagged_at, digests_at, event_at, record_at, records_at}
+use Rattle.tcg_log.proofs.Fields.{two, four}
 
 -- ---- digests
 
@@ -32,108 +35,51 @@ named_size : (o : Option ℕ) (n : ℕ) → option_map_or (λ size. eqb n size) 
 named_size None n e = absurd cc
 named_size (Some size) n e = ap Some (sym (eqb-true _ _ e))
 
-pub record TaggedTaken (algorithms : List Algorithm) (before : List Tagged) (bytes : List ℕ) (x : Tagged × List ℕ) : Type 0 where
-  pub takes : Takes bytes (tagged_text x.0) x.1
-  pub new' : is_tagged before x.0.algorithm ≡ false
-  pub sized : option_map_or (λ size. eqb (length x.0.digest) size) (size_named algorithms x.0.algorithm) false ≡ true
-  pub fits : TaggedFits x.0
-
-pub tagged_takes : (all : ℕ) (algorithms : List Algorithm) (before : List Tagged) (bytes : List ℕ) (x : Tagged × List ℕ) → IsBytes bytes → tagged_at all algorithms before bytes ≡ Ok x → TaggedTaken algorithms before bytes x
+tagged_takes : (all : ℕ) (algorithms : List Algorithm) (before : List Tagged) (bytes : List ℕ) (x : Tagged × List ℕ) → IsBytes bytes → tagged_at all algorithms before bytes ≡ Ok x
+    → Taken tagged_text (Passes (tagged_fits algorithms) TaggedFits before) bytes x
 unfolding tagged_at
 tagged_takes all algorithms before bytes x fits e =
     let a = bind_ok e in
     let b = bind_ok a.second in
     let c = bind_ok b.second in
-    let number = number_takes wide16 all bytes a.value fits a.first in
+    let number = (two all).takes bytes a.value fits a.first in
     let there = unless (is_tagged before a.value.0) (size_named algorithms a.value.0) b.value (ok_or_some _ _ b.value b.first) in
-    let digest = bytes_take all b.value a.value.1 c.value number.takes.rest_fits c.first in
+    let digest = bytes_take (cut all) b.value a.value.1 c.value number.takes.rest_fits c.first in
+    let sized : option_map_or (λ size. eqb (length c.value.0) size) (size_named algorithms a.value.0) false ≡ true = ap (λ (o : Option ℕ). option_map_or (λ size. eqb (length c.value.0) size) o false) there.1 ∙ eq-eqb _ _ digest.count in
     let made : Tagged × List ℕ = (record { algorithm = a.value.0; digest = c.value.0 }, c.value.1) in
-    subst (λ (y : Tagged × List ℕ). TaggedTaken algorithms before bytes y) (ok_is made x c.second) (record {
+    subst (λ (y : Tagged × List ℕ). Taken tagged_text (Passes (tagged_fits algorithms) TaggedFits before) bytes y) (ok_is made x c.second) (record {
       takes = Takes-then number.takes digest.takes;
-      new' = there.0;
-      sized = ap (λ (o : Option ℕ). option_map_or (λ size. eqb (length c.value.0) size) o false) there.1 ∙ eq-eqb _ _ digest.count;
-      fits = record { algorithm = number.below; digest = digest.fits };
+      fits = (and_from _ _ (not_from_false _ there.0) sized, record { algorithm = number.fits; digest = digest.fits });
     })
 
-tagged_again : (all : ℕ) (algorithms : List Algorithm) (before : List Tagged) (t : Tagged) (rest : List ℕ) → TaggedFits t → is_tagged before t.algorithm ≡ false
-    → option_map_or (λ size. eqb (length t.digest) size) (size_named algorithms t.algorithm) false ≡ true → tagged_at all algorithms before (tagged_text t ++ rest) ≡ Ok (t, rest)
+tagged_again : (all : ℕ) (algorithms : List Algorithm) (before : List Tagged) (t : Tagged) (rest : List ℕ) → Passes (tagged_fits algorithms) TaggedFits before t → tagged_at all algorithms before (tagged_text t ++ rest) ≡ Ok (t, rest)
 unfolding tagged_at
-tagged_again all algorithms before t rest fits new' sized =
+tagged_again all algorithms before t rest fits =
+    let h = and_parts (not (is_tagged before t.algorithm)) (option_map_or (λ size. eqb (length t.digest) size) (size_named algorithms t.algorithm) false) fits.0 in
     let regrouped : tagged_text t ++ rest ≡ to_le_bytes w16 t.algorithm ++ (t.digest ++ rest) = append_assoc (to_le_bytes w16 t.algorithm) t.digest rest in
-    let size : size_named algorithms t.algorithm ≡ Some (length t.digest) = named_size (size_named algorithms t.algorithm) (length t.digest) sized in
-    let there : cond (is_tagged before t.algorithm) None (size_named algorithms t.algorithm) ≡ Some (length t.digest) = skip_test (is_tagged before t.algorithm) None new' size in
+    let size : size_named algorithms t.algorithm ≡ Some (length t.digest) = named_size (size_named algorithms t.algorithm) (length t.digest) h.1 in
+    let there : cond (is_tagged before t.algorithm) None (size_named algorithms t.algorithm) ≡ Some (length t.digest) = skip_test (is_tagged before t.algorithm) None (not-true _ h.0) size in
     ap (tagged_at all algorithms before) regrouped
-    ∙ bind_eq _ (t.algorithm, t.digest ++ rest) (number_again wide16 all t.algorithm (t.digest ++ rest) fits.algorithm)
+    ∙ bind_eq _ (t.algorithm, t.digest ++ rest) ((two all).again t.algorithm (t.digest ++ rest) fits.1.algorithm)
     (bind_eq _ (length t.digest) (ap (λ (o : Option ℕ). ok_or o (fault all DigestAlgorithm (to_le_bytes w16 t.algorithm ++ (t.digest ++ rest)))) there)
-    (bind_eq _ (t.digest, rest) (bytes_again all (length t.digest) t.digest rest refl) refl))
+    (bind_eq _ (t.digest, rest) (bytes_again (cut all) (length t.digest) t.digest rest refl) refl))
 
-record DigestsTaken (algorithms : List Algorithm) (n : ℕ) (before : List Tagged) (bytes : List ℕ) (read : List Tagged) (rest : List ℕ) : Type 0 where
-  more : List Tagged
-  whole : read ≡ before ++ more
-  count : length more ≡ n
-  takes : Takes bytes (flat_map tagged_text more) rest
-  allowed : are_digests algorithms before more ≡ true
-  fits : AllByRecursion TaggedFits more
+tagged_grammar : (all : ℕ) (algorithms : List Algorithm) → GrammarBehind (tagged_at all algorithms) tagged_text (Passes (tagged_fits algorithms) TaggedFits)
+tagged_grammar all algorithms before = record {
+  takes = λ bytes x fits e. tagged_takes all algorithms before bytes x fits e;
+  again = λ t rest fits. tagged_again all algorithms before t rest fits;
+}
 
-digests_take : (all : ℕ) (algorithms : List Algorithm) (n : ℕ) (before : List Tagged) (bytes : List ℕ) (read : List Tagged) (rest : List ℕ) → IsBytes bytes → digests_at all algorithms n before bytes ≡ Ok (read, rest)
-    → DigestsTaken algorithms n before bytes read rest
+asks_digests : (algorithms : List Algorithm) → AsksEach (tagged_fits algorithms) (are_digests algorithms)
+asks_digests algorithms = record { none = λ before. refl; one = λ before t more. refl }
+
+-- a list of digests that may stand in a record
+abbrev DigestsFit : List Algorithm → List Tagged → Type 0
+DigestsFit algorithms = CountedFits 1 (length algorithms) (2 ^ 32) (Passes (tagged_fits algorithms) TaggedFits)
+
+digests_grammar : (all : ℕ) (algorithms : List Algorithm) → Grammar (digests_at all algorithms) digests_text (DigestsFit algorithms)
 unfolding digests_at
-digests_take all algorithms zero before bytes read rest fits e =
-    subst (λ (y : List Tagged × List ℕ). DigestsTaken algorithms zero before bytes y.0 y.1) (ok_is (before, bytes) (read, rest) e)
-    (record { more = []; whole = sym (append-nil before); count = refl; takes = record { parts = refl; rest_fits = fits }; allowed = refl; fits = tt })
-digests_take all algorithms (suc n) before bytes read rest fits e =
-    let a = bind_ok e in
-    let first = tagged_takes all algorithms before bytes a.value fits a.first in
-    let others = digests_take all algorithms n (before ++ a.value.0 ∷ []) a.value.1 read rest first.takes.rest_fits a.second in
-    record {
-      more = a.value.0 ∷ others.more;
-      whole = others.whole ∙ append_assoc before (a.value.0 ∷ []) others.more;
-      count = ap suc others.count;
-      takes = Takes-then first.takes others.takes;
-      allowed = all_of _ _ (all_of _ _ (not_true _ first.new') first.sized) others.allowed;
-      fits = (first.fits, others.fits);
-    }
-
-digests_again : (all : ℕ) (algorithms : List Algorithm) (before more : List Tagged) (rest : List ℕ) → are_digests algorithms before more ≡ true → AllByRecursion TaggedFits more
-    → digests_at all algorithms (length more) before (flat_map tagged_text more ++ rest) ≡ Ok (before ++ more, rest)
-unfolding digests_at
-digests_again all algorithms before [] rest allowed fits = ap (λ (read : List Tagged). Ok (read, rest)) (sym (append-nil before))
-digests_again all algorithms before (t ∷ more) rest allowed fits =
-    let h = both (not (is_tagged before t.algorithm) && option_map_or (λ size. eqb (length t.digest) size) (size_named algorithms t.algorithm) false) (are_digests algorithms (before ++ t ∷ []) more) allowed in
-    let k = both (not (is_tagged before t.algorithm)) (option_map_or (λ size. eqb (length t.digest) size) (size_named algorithms t.algorithm) false) h.0 in
-    let regrouped : flat_map tagged_text (t ∷ more) ++ rest ≡ tagged_text t ++ (flat_map tagged_text more ++ rest) = append_assoc (tagged_text t) (flat_map tagged_text more) rest in
-    ap (digests_at all algorithms (suc (length more)) before) regrouped
-    ∙ bind_eq _ (t, flat_map tagged_text more ++ rest) (tagged_again all algorithms before t (flat_map tagged_text more ++ rest) fits.0 (not_false _ k.0) k.1)
-    (digests_again all algorithms (before ++ t ∷ []) more rest h.1 fits.1 ∙ ap (λ (read : List Tagged). Ok (read, rest)) (append_assoc before (t ∷ []) more))
-
-pub record CountedTaken (algorithms : List Algorithm) (bytes : List ℕ) (read : List Tagged) (rest : List ℕ) : Type 0 where
-  pub takes : Takes bytes (digests_text read) rest
-  pub count : (leb 1 (length read) && leb (length read) (length algorithms)) ≡ true
-  pub allowed : are_digests algorithms [] read ≡ true
-  pub fits : AllByRecursion TaggedFits read
-
-pub counted_takes : (all : ℕ) (algorithms : List Algorithm) (bytes : List ℕ) (read : List Tagged) (rest : List ℕ) → IsBytes bytes → counted_at all algorithms bytes ≡ Ok (read, rest) → CountedTaken algorithms bytes read rest
-unfolding counted_at
-counted_takes all algorithms bytes read rest fits e =
-    let a = bind_ok e in
-    let g = passed _ a.second in
-    let count = number_takes wide32 all bytes a.value fits a.first in
-    let t = digests_take all algorithms a.value.0 [] a.value.1 read rest count.takes.rest_fits g.1 in
-    subst (λ (l : List Tagged). CountedTaken algorithms bytes l rest) (sym t.whole) (record {
-      takes = subst (λ (n : ℕ). Takes bytes (to_le_bytes w32 n ++ flat_map tagged_text t.more) rest) (sym t.count) (Takes-then count.takes t.takes);
-      count = subst (λ (n : ℕ). (leb 1 n && leb n (length algorithms)) ≡ true) (sym t.count) g.0;
-      allowed = t.allowed;
-      fits = t.fits;
-    })
-
-counted_again : (all : ℕ) (algorithms : List Algorithm) (read : List Tagged) (rest : List ℕ) → (leb 1 (length read) && leb (length read) (length algorithms)) ≡ true → are_digests algorithms [] read ≡ true
-    → AllByRecursion TaggedFits read → length read < 2 ^ 32 → counted_at all algorithms (digests_text read ++ rest) ≡ Ok (read, rest)
-unfolding counted_at
-counted_again all algorithms read rest few allowed fits short =
-    let regrouped : digests_text read ++ rest ≡ to_le_bytes w32 (length read) ++ (flat_map tagged_text read ++ rest) = append_assoc (to_le_bytes w32 (length read)) (flat_map tagged_text read) rest in
-    ap (counted_at all algorithms) regrouped
-    ∙ bind_eq _ (length read, flat_map tagged_text read ++ rest) (number_again wide32 all (length read) (flat_map tagged_text read ++ rest) short)
-    (take_test (leb 1 (length read) && leb (length read) (length algorithms)) _ few (digests_again all algorithms [] read rest allowed fits))
+digests_grammar all algorithms = counted_grammar (four all) (tagged_grammar all algorithms) 1 (length algorithms) (fault all Count)
 
 -- ---- the event
 
@@ -146,11 +92,11 @@ pub event_takes : (all : ℕ) (bytes event rest : List ℕ) → IsBytes bytes �
 unfolding event_at
 event_takes all bytes event rest fits e =
     let a = bind_ok e in
-    let size = number_takes wide32 all bytes a.value fits a.first in
-    let t = bytes_take all a.value.0 a.value.1 (event, rest) size.takes.rest_fits a.second in
+    let size = (four all).takes bytes a.value fits a.first in
+    let t = bytes_take (cut all) a.value.0 a.value.1 (event, rest) size.takes.rest_fits a.second in
     record {
       takes = subst (λ (k : ℕ). Takes bytes (to_le_bytes w32 k ++ event) rest) (sym t.count) (Takes-then size.takes t.takes);
-      short = lt-ltb _ _ (omega (arith, t.count, size.below));
+      short = lt-ltb _ _ (omega (arith, t.count, size.fits));
       fits = t.fits;
     }
 
@@ -159,7 +105,7 @@ unfolding event_at
 event_again all event rest short =
     let regrouped : event_text event ++ rest ≡ to_le_bytes w32 (length event) ++ (event ++ rest) = append_assoc (to_le_bytes w32 (length event)) event rest in
     ap (event_at all) regrouped
-    ∙ bind_eq _ (length event, event ++ rest) (number_again wide32 all (length event) (event ++ rest) short) (bytes_again all (length event) event rest refl)
+    ∙ bind_eq _ (length event, event ++ rest) ((four all).again (length event) (event ++ rest) short) (bytes_again (cut all) (length event) event rest refl)
 
 -- ---- a record
 
@@ -176,44 +122,46 @@ record_takes all algorithms bytes x fits e =
     let g = passed_over _ b.second in
     let c = bind_ok g.1 in
     let d = bind_ok c.second in
-    let pcr = number_takes wide32 all bytes a.value fits a.first in
-    let kind = number_takes wide32 all a.value.1 b.value pcr.takes.rest_fits b.first in
-    let digests = counted_takes all algorithms b.value.1 c.value.0 c.value.1 kind.takes.rest_fits c.first in
+    let pcr = (four all).takes bytes a.value fits a.first in
+    let kind = (four all).takes a.value.1 b.value pcr.takes.rest_fits b.first in
+    let digests = (digests_grammar all algorithms).takes b.value.1 c.value kind.takes.rest_fits c.first in
+    let each = each_passes TaggedFits (asks_digests algorithms) [] c.value.0 digests.fits.fit in
+    let count = and_from _ _ (le-leb _ _ digests.fits.some) (le-leb _ _ digests.fits.few) in
     let event = event_takes all c.value.1 d.value.0 d.value.1 digests.takes.rest_fits d.first in
     let made : FirmwareRecord × List ℕ = (record { pcr = a.value.0; kind = b.value.0; digests = c.value.0; event = d.value.0 }, d.value.1) in
     subst (λ (y : FirmwareRecord × List ℕ). RecordTaken algorithms bytes y.0 y.1) (ok_is made x d.second) (record {
       takes = Takes-then pcr.takes (Takes-then kind.takes (Takes-then digests.takes event.takes));
-      allowed = all_of _ _ (all_of _ _ (negated (has_pcr b.value.0 a.value.0) g.0) digests.count) (all_of _ _ digests.allowed event.short);
-      fits = record { pcr = pcr.below; kind = kind.below; digests = digests.fits; event = event.fits };
+      allowed = and_from _ _ (and_from _ _ (not-false (has_pcr b.value.0 a.value.0) g.0) count) (and_from _ _ each.allowed event.short);
+      fits = record { pcr = pcr.fits; kind = kind.fits; digests = each.fits; event = event.fits };
     })
-  where
-    negated : (b : Bool) → not b ≡ false → b ≡ true
-    negated true e = refl
-    negated false e = absurd cc
 
 regroup : (p k d e rest : List ℕ) → (p ++ (k ++ (d ++ e))) ++ rest ≡ p ++ (k ++ (d ++ (e ++ rest)))
 regroup p k d e rest = simp append_assoc
-
-doubly : (b : Bool) → b ≡ true → not b ≡ false
-doubly b e = rw e refl
 
 pub record_again : (all : ℕ) (algorithms : List Algorithm) (r : FirmwareRecord) (rest : List ℕ) → length algorithms < 2 ^ 32 → is_record algorithms r ≡ true → RecordFits r
     → record_at all algorithms (record_text r ++ rest) ≡ Ok (r, rest)
 unfolding record_at
 record_again all algorithms r rest few allowed fits =
     let counts = leb 1 (length r.digests) && leb (length r.digests) (length algorithms) in
-    let h = both (has_pcr r.kind r.pcr && counts) (are_digests algorithms [] r.digests && ltb (length r.event) (2 ^ 32)) allowed in
-    let k = both (has_pcr r.kind r.pcr) counts h.0 in
-    let m = both (are_digests algorithms [] r.digests) (ltb (length r.event) (2 ^ 32)) h.1 in
-    let at_most : length r.digests ≤ length algorithms = leb-true _ _ (both (leb 1 (length r.digests)) (leb (length r.digests) (length algorithms)) k.1).1 in
+    let h = and_parts (has_pcr r.kind r.pcr && counts) (are_digests algorithms [] r.digests && ltb (length r.event) (2 ^ 32)) allowed in
+    let k = and_parts (has_pcr r.kind r.pcr) counts h.0 in
+    let m = and_parts (are_digests algorithms [] r.digests) (ltb (length r.event) (2 ^ 32)) h.1 in
+    let count = and_parts (leb 1 (length r.digests)) (leb (length r.digests) (length algorithms)) k.1 in
+    let at_most : length r.digests ≤ length algorithms = leb-true _ _ count.1 in
+    let fit : DigestsFit algorithms r.digests = record {
+      some = leb-true _ _ count.0;
+      few = at_most;
+      below = omega arith;
+      fit = passes_each TaggedFits (asks_digests algorithms) [] r.digests m.0 fits.digests;
+    } in
     let event = event_text r.event ++ rest in
     let digests = digests_text r.digests ++ event in
     let kind = to_le_bytes w32 r.kind ++ digests in
     ap (record_at all algorithms) (regroup (to_le_bytes w32 r.pcr) (to_le_bytes w32 r.kind) (digests_text r.digests) (event_text r.event) rest)
-    ∙ bind_eq _ (r.pcr, kind) (number_again wide32 all r.pcr kind fits.pcr)
-    (bind_eq _ (r.kind, digests) (number_again wide32 all r.kind digests fits.kind)
-    (skip_test (not (has_pcr r.kind r.pcr)) _ (doubly _ k.0)
-    (bind_eq _ (r.digests, event) (counted_again all algorithms r.digests event k.1 m.0 fits.digests (omega arith))
+    ∙ bind_eq _ (r.pcr, kind) ((four all).again r.pcr kind fits.pcr)
+    (bind_eq _ (r.kind, digests) ((four all).again r.kind digests fits.kind)
+    (skip_test (not (has_pcr r.kind r.pcr)) _ (not_from_true _ k.0)
+    (bind_eq _ (r.digests, event) ((digests_grammar all algorithms).again r.digests event fit)
     (bind_eq _ (r.event, rest) (event_again all r.event rest (ltb-true _ _ m.1)) refl))))
 
 -- ---- records to the end of the bytes
@@ -245,7 +193,7 @@ records_take all algorithms (suc limit) before (b ∷ bytes) read fits e =
       whole = others.whole ∙ append_assoc before (a.value.0 ∷ []) others.more;
       few = omega (arith, others.few);
       text = first.takes.parts ∙ ap (λ (rest : List ℕ). record_text a.value.0 ++ rest) others.text;
-      allowed = all_of _ _ first.allowed others.allowed;
+      allowed = and_from _ _ first.allowed others.allowed;
       fits = (first.fits, others.fits);
     }
 
@@ -256,7 +204,7 @@ records_again all algorithms zero before [] few short allowed fits = ap Ok (sym 
 records_again all algorithms (suc limit) before [] few short allowed fits = ap Ok (sym (append-nil before))
 records_again all algorithms zero before (r ∷ more) few short allowed fits = absurd (omega arith)
 records_again all algorithms (suc limit) before (r ∷ more) few short allowed fits =
-    let h = both (is_record algorithms r) (list_all (is_record algorithms) more) allowed in
+    let h = and_parts (is_record algorithms r) (list_all (is_record algorithms) more) allowed in
     bind_eq _ (r, flat_map record_text more) (record_again all algorithms r (flat_map record_text more) few h.0 fits.0)
     (records_again all algorithms limit (before ++ r ∷ []) more few (omega arith) h.1 fits.1 ∙ ap Ok (append_assoc before (r ∷ []) more))
 
@@ -268,7 +216,7 @@ records_over all algorithms zero before [] b rest few count allowed fits = refl
 records_over all algorithms (suc limit) before [] b rest few count allowed fits = absurd (omega arith)
 records_over all algorithms zero before (r ∷ more) b rest few count allowed fits = absurd (omega arith)
 records_over all algorithms (suc limit) before (r ∷ more) b rest few count allowed fits =
-    let h = both (is_record algorithms r) (list_all (is_record algorithms) more) allowed in
+    let h = and_parts (is_record algorithms r) (list_all (is_record algorithms) more) allowed in
     let regrouped : flat_map record_text (r ∷ more) ++ b ∷ rest ≡ record_text r ++ (flat_map record_text more ++ b ∷ rest) = append_assoc (record_text r) (flat_map record_text more) (b ∷ rest) in
     ap (records_at all algorithms (suc limit) before) regrouped
     ∙ bind_eq _ (r, flat_map record_text more ++ b ∷ rest) (record_again all algorithms r (flat_map record_text more ++ b ∷ rest) few h.0 fits.0)

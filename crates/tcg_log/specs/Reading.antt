@@ -1,7 +1,8 @@
 -- Reading a log from left to right: the value with the bytes after it, or the first fault.
-use Rattle.std.specs.Prelude.{◌≡◌, ℕ, zero, suc, ◌-◌, not, ◌&&◌, nat_le, nat_lt, ◌==◌, if◌then◌else◌, List, [], ◌∷◌, ◌++◌, length, take, drop, replicate, None, Result, Ok, Err, ok_or}
-use Rattle.std.specs.Int.{Width, w16, w32, byte_len, from_le_bytes, to_le_bytes}
+use Rattle.std.specs.Prelude.{◌≡◌, ℕ, zero, suc, not, nat_lt, ◌==◌, if◌then◌else◌, List, [], ◌∷◌, ◌++◌, length, take, drop, replicate, None, Result, Ok, Err, ok_or}
+use Rattle.std.specs.Int.{w16, w32, to_le_bytes}
 use Rattle.std.specs.Str.{bytes_eq}
+use Rattle.pl_layout.specs.Reading.{◌>>=◌, place, bytes_at, little_at, byte_at, counted_at}
 use Rattle.tcg_log.specs.declared.error.LogKind.{LogKind}
 use Rattle.tcg_log.specs.declared.error.LogKind.TheVariants.{Cut, NoSpecId, Algorithms, SpecSize, PcrNumber, Count, DigestAlgorithm}
 use Rattle.tcg_log.specs.declared.error.LogError.{LogError}
@@ -13,11 +14,6 @@ use Rattle.tcg_log.specs.declared.spec_id.SpecId.{SpecId}
 use Rattle.tcg_log.specs.declared.log.FirmwareLog.{FirmwareLog}
 use Rattle.tcg_log.specs.Text.{signature, event_size}
 use Rattle.tcg_log.specs.Allowed.{is_named, size_fits, is_tagged, size_named, has_pcr}
-
-infixl 10 ◌>>=◌
-abbrev pub ◌>>=◌ : {A B : Type 0} → Result A LogError → (A → Result B LogError) → Result B LogError
-(Ok x) >>= f = f x
-(Err e) >>= f = Err e
 
 -- What a function returned, seen by view, is what reading gives, unless memory ran out.
 abbrev pub Fails : {Y : Type 0} → LogError → Result Y LogError → Type 0
@@ -31,26 +27,16 @@ Gives view (Err e) read = Fails e read
 
 -- the fault of the field that begins with these bytes, the last of all that there are
 abbrev pub fault : ℕ → LogKind → List ℕ → LogError
-fault all kind bytes = Malformed (all - length bytes) kind
+fault all kind bytes = Malformed (place all bytes) kind
 
--- ---- fields
-
-abbrev pub bytes_at : ℕ → ℕ → List ℕ → Result (List ℕ × List ℕ) LogError
-bytes_at all n bytes = if nat_lt (length bytes) n then Err (fault all Cut bytes) else Ok (take n bytes, drop n bytes)
-
-abbrev pub number_at : ℕ → Width → List ℕ → Result (ℕ × List ℕ) LogError
-number_at all w bytes =
-    if nat_lt (length bytes) (byte_len w) then Err (fault all Cut bytes)
-    else Ok (from_le_bytes w (take (byte_len w) bytes), drop (byte_len w) bytes)
-
-abbrev pub byte_at : ℕ → List ℕ → Result (ℕ × List ℕ) LogError
-byte_at all [] = Err (fault all Cut [])
-byte_at all (b ∷ bytes) = Ok (b, bytes)
+-- that of a field that ends after the bytes
+abbrev pub cut : ℕ → List ℕ → LogError
+cut all = fault all Cut
 
 -- what a Spec ID record has in this place
 abbrev pub constant_at : ℕ → List ℕ → List ℕ → Result (List ℕ) LogError
 constant_at all text bytes =
-    if nat_lt (length bytes) (length text) then Err (fault all Cut bytes)
+    if nat_lt (length bytes) (length text) then Err (cut all bytes)
     else if bytes_eq (take (length text) bytes) text then Ok (drop (length text) bytes) else Err (fault all NoSpecId bytes)
 
 -- ---- the Spec ID record
@@ -61,42 +47,34 @@ head_at all bytes = do
   kind ← constant_at all (to_le_bytes w32 0) bytes
   digest ← constant_at all (to_le_bytes w32 3) kind
   size ← constant_at all (replicate 20 0) digest
-  number_at all w32 size
+  little_at (cut all) w32 size
 
 -- an algorithm that is none of those read before
 unfoldable pub algorithm_at : ℕ → List Algorithm → List ℕ → Result (Algorithm × List ℕ) LogError
 algorithm_at all before bytes = do
-  number ← number_at all w16 bytes
+  number ← little_at (cut all) w16 bytes
   if is_named before number.0 then Err (fault all Algorithms bytes) else do
-    size ← number_at all w16 number.1
+    size ← little_at (cut all) w16 number.1
     if size_fits number.0 size.0 then Ok (record { number = number.0; size = size.0 }, size.1) else Err (fault all Algorithms number.1)
-
-unfoldable pub algorithms_at : ℕ → ℕ → List Algorithm → List ℕ → Result (List Algorithm × List ℕ) LogError
-algorithms_at all zero before bytes = Ok (before, bytes)
-algorithms_at all (suc n) before bytes = do
-  a ← algorithm_at all before bytes
-  algorithms_at all n (before ++ a.0 ∷ []) a.1
 
 -- the algorithms behind their number
 unfoldable pub named_at : ℕ → List ℕ → Result (List Algorithm × List ℕ) LogError
-named_at all bytes = do
-  n ← number_at all w32 bytes
-  if nat_le 1 n.0 && nat_le n.0 16 then algorithms_at all n.0 [] n.1 else Err (fault all Algorithms bytes)
+named_at all bytes = counted_at (little_at (cut all) w32) 1 16 (fault all Algorithms) (algorithm_at all) bytes
 
 -- the vendor's bytes behind their number, with which the stated size has to be that of the event
 unfoldable pub vendor_at : ℕ → ℕ → ℕ → List ℕ → Result (List ℕ × List ℕ) LogError
 vendor_at all size algorithms bytes = do
-  n ← byte_at all bytes
-  if size == event_size algorithms n.0 then bytes_at all n.0 n.1 else Err (Malformed 28 SpecSize)
+  n ← byte_at (cut all) bytes
+  if size == event_size algorithms n.0 then bytes_at (cut all) n.0 n.1 else Err (Malformed 28 SpecSize)
 
 -- the platform's class and the versions, in a value that has nothing else yet
 unfoldable pub class_at : ℕ → List ℕ → Result (SpecId × List ℕ) LogError
 class_at all bytes = do
-  platform ← number_at all w32 bytes
-  minor ← byte_at all platform.1
-  major ← byte_at all minor.1
-  errata ← byte_at all major.1
-  uintn ← byte_at all errata.1
+  platform ← little_at (cut all) w32 bytes
+  minor ← byte_at (cut all) platform.1
+  major ← byte_at (cut all) minor.1
+  errata ← byte_at (cut all) major.1
+  uintn ← byte_at (cut all) errata.1
   Ok (record { platform = platform.0; minor = minor.0; major = major.0; errata = errata.0; uintn = uintn.0; algorithms = []; vendor = [] }, uintn.1)
 
 unfoldable pub spec_at : ℕ → List ℕ → Result (SpecId × List ℕ) LogError
@@ -113,35 +91,27 @@ spec_at all bytes = do
 -- a digest of one of the algorithms, none of those read before
 unfoldable pub tagged_at : ℕ → List Algorithm → List Tagged → List ℕ → Result (Tagged × List ℕ) LogError
 tagged_at all algorithms before bytes = do
-  number ← number_at all w16 bytes
+  number ← little_at (cut all) w16 bytes
   size ← ok_or (if is_tagged before number.0 then None else size_named algorithms number.0) (fault all DigestAlgorithm bytes)
-  digest ← bytes_at all size number.1
+  digest ← bytes_at (cut all) size number.1
   Ok (record { algorithm = number.0; digest = digest.0 }, digest.1)
 
-unfoldable pub digests_at : ℕ → List Algorithm → ℕ → List Tagged → List ℕ → Result (List Tagged × List ℕ) LogError
-digests_at all algorithms zero before bytes = Ok (before, bytes)
-digests_at all algorithms (suc n) before bytes = do
-  t ← tagged_at all algorithms before bytes
-  digests_at all algorithms n (before ++ t.0 ∷ []) t.1
-
 -- the digests behind their count
-unfoldable pub counted_at : ℕ → List Algorithm → List ℕ → Result (List Tagged × List ℕ) LogError
-counted_at all algorithms bytes = do
-  n ← number_at all w32 bytes
-  if nat_le 1 n.0 && nat_le n.0 (length algorithms) then digests_at all algorithms n.0 [] n.1 else Err (fault all Count bytes)
+unfoldable pub digests_at : ℕ → List Algorithm → List ℕ → Result (List Tagged × List ℕ) LogError
+digests_at all algorithms bytes = counted_at (little_at (cut all) w32) 1 (length algorithms) (fault all Count) (tagged_at all algorithms) bytes
 
 -- the event behind its size
 unfoldable pub event_at : ℕ → List ℕ → Result (List ℕ × List ℕ) LogError
 event_at all bytes = do
-  size ← number_at all w32 bytes
-  bytes_at all size.0 size.1
+  size ← little_at (cut all) w32 bytes
+  bytes_at (cut all) size.0 size.1
 
 unfoldable pub record_at : ℕ → List Algorithm → List ℕ → Result (FirmwareRecord × List ℕ) LogError
 record_at all algorithms bytes = do
-  pcr ← number_at all w32 bytes
-  kind ← number_at all w32 pcr.1
+  pcr ← little_at (cut all) w32 bytes
+  kind ← little_at (cut all) w32 pcr.1
   if not (has_pcr kind.0 pcr.0) then Err (fault all PcrNumber bytes) else do
-    digests ← counted_at all algorithms kind.1
+    digests ← digests_at all algorithms kind.1
     event ← event_at all digests.1
     Ok (record { pcr = pcr.0; kind = kind.0; digests = digests.0; event = event.0 }, event.1)
 

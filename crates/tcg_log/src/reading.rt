@@ -1,77 +1,45 @@
-ghost use Rattle.std.specs.Prelude.{◌≡◌, ◌<◌, ◌≤◌, ◌^◌, [], length, IfOk, Ok, Err};
-ghost use Rattle.std.specs.Int.{w16, w32};
+ghost use Rattle.std.specs.Prelude.{◌≡◌, ◌<◌, ◌≤◌, [], length, IfOk, Ok, Err};
+ghost use Rattle.pl_layout.specs.Reading.{repeat_at};
 ghost use Rattle.tcg_log.specs.declared.error.LogError.TheVariants.{TooMany};
 ghost use Rattle.tcg_log.specs.declared.log.FirmwareLog.{FirmwareLog as TheLog};
 ghost use Rattle.tcg_log.specs.Allowed.{AreSized, is_tagged, FirmwareText, IsWritable, HoldsMore};
-ghost use Rattle.tcg_log.specs.Reading.{Gives, fault, number_at, byte_at, bytes_at, constant_at, head_at, algorithm_at, algorithms_at, named_at, vendor_at, class_at, spec_at, tagged_at, digests_at, counted_at, event_at, record_at, records_at, log_at};
+ghost use Rattle.tcg_log.specs.Reading.{Gives, cut, fault, constant_at, head_at, algorithm_at, named_at, vendor_at, class_at, spec_at, tagged_at, digests_at, event_at, record_at, records_at, log_at};
 
 use crate::algorithm::{has_number, size_fits, size_of_number};
 use crate::error::{LogError, LogKind};
 use crate::log::{FirmwareLog, RECORDS};
 use crate::record::{EV_NO_ACTION, FirmwareRecord, Tagged};
 use crate::spec_id::{Algorithm, SpecId};
-use hash_bank::Digest;
 use pl_base::List;
+use pl_layout::{CutFault, digest_of, place_of, read_bytes, read_u8, read_u16_le, read_u32_le};
 use std::alloc::Global;
 
 /// What a Spec ID event begins with.
 pub(crate) const SIGNATURE: &[u8] = b"Spec ID Event03\0";
 
 /// The fault of the field that begins with these bytes, the last of all that there are.
-fn fault_at(all: u32, kind: LogKind, bytes: &[u8]) -> LogError
+fn fault_at(all: usize, kind: LogKind, bytes: &[u8]) -> LogError
     ensures { result ≡ fault all kind bytes.now }
 {
     LogError::Malformed {
-        place: (all as usize).saturating_sub(bytes.len()) as u32,
+        place: place_of(all, bytes),
         kind,
     }
 }
 
-fn u32_at(all: u32, bytes: &[u8]) -> Result<(u32, &[u8]), LogError>
-    ensures { Gives (λ x. (x.0, x.1.now)) result (number_at all w32 bytes.now) }
-{
-    if bytes.len() < 4 {
-        return Err(fault_at(all, LogKind::Cut, bytes));
-    }
-    let (front, rest) = bytes.split_at(4);
-    let number = u32::from_le_bytes([front[0], front[1], front[2], front[3]]);
-    Ok((number, rest))
-}
+impl CutFault for LogError {
+    ghost cut_at = { cut };
 
-fn u16_at(all: u32, bytes: &[u8]) -> Result<(u16, &[u8]), LogError>
-    ensures { Gives (λ x. (x.0, x.1.now)) result (number_at all w16 bytes.now) }
-{
-    if bytes.len() < 2 {
-        return Err(fault_at(all, LogKind::Cut, bytes));
+    fn cut(all: usize, bytes: &[u8]) -> LogError {
+        fault_at(all, LogKind::Cut, bytes)
     }
-    let (front, rest) = bytes.split_at(2);
-    let number = u16::from_le_bytes([front[0], front[1]]);
-    Ok((number, rest))
-}
-
-fn u8_at(all: u32, bytes: &[u8]) -> Result<(u8, &[u8]), LogError>
-    ensures { Gives (λ x. (x.0, x.1.now)) result (byte_at all bytes.now) }
-{
-    match bytes {
-        [] => Err(fault_at(all, LogKind::Cut, bytes)),
-        [byte, rest @ ..] => Ok((*byte, rest)),
-    }
-}
-
-fn slice_at(all: u32, len: usize, bytes: &[u8]) -> Result<(&[u8], &[u8]), LogError>
-    ensures { Gives (λ x. (x.0.now, x.1.now)) result (bytes_at all len bytes.now) }
-{
-    if bytes.len() < len {
-        return Err(fault_at(all, LogKind::Cut, bytes));
-    }
-    Ok(bytes.split_at(len))
 }
 
 /// Passes over what a Spec ID record has in this place.
-fn after_constant<'a>(all: u32, text: &[u8], bytes: &'a [u8]) -> Result<&'a [u8], LogError>
+fn after_constant<'a>(all: usize, text: &[u8], bytes: &'a [u8]) -> Result<&'a [u8], LogError>
     ensures { Gives (λ x. x.now) result (constant_at all text.now bytes.now) }
 {
-    let (front, rest) = slice_at(all, text.len(), bytes)?;
+    let (front, rest) = read_bytes::<LogError>(all, text.len(), bytes)?;
     if front != text {
         return Err(fault_at(all, LogKind::NoSpecId, bytes));
     }
@@ -79,29 +47,29 @@ fn after_constant<'a>(all: u32, text: &[u8], bytes: &'a [u8]) -> Result<&'a [u8]
 }
 
 #[tactic(auto, unfolding(crate::specs::Reading::head_at))]
-fn head(all: u32, bytes: &[u8]) -> Result<(u32, &[u8]), LogError>
+fn head(all: usize, bytes: &[u8]) -> Result<(u32, &[u8]), LogError>
     ensures { Gives (λ x. (x.0, x.1.now)) result (head_at all bytes.now) }
 {
     let rest = after_constant(all, &[0, 0, 0, 0], bytes)?;
     let rest = after_constant(all, &[3, 0, 0, 0], rest)?;
     let rest = after_constant(all, &[0; 20], rest)?;
-    u32_at(all, rest)
+    read_u32_le(all, rest)
 }
 
 #[tactic(auto, unfolding(crate::specs::Reading::algorithm_at))]
 fn algorithm<'a>(
-    all: u32,
+    all: usize,
     before: &[Algorithm],
     bytes: &'a [u8],
 ) -> Result<(Algorithm, &'a [u8]), LogError>
     ensures exact { Gives (λ x. (x.0, x.1.now)) result (algorithm_at all before.now bytes.now) }
     ensures sized { IfOk result (λ x. (1 ≤ x.0.size) × (x.0.size ≤ 64)) }
 {
-    let (number, rest) = u16_at(all, bytes)?;
+    let (number, rest) = read_u16_le::<LogError>(all, bytes)?;
     if has_number(before, number) {
         return Err(fault_at(all, LogKind::Algorithms, bytes));
     }
-    let (size, after) = u16_at(all, rest)?;
+    let (size, after) = read_u16_le::<LogError>(all, rest)?;
     if !size_fits(number, size) {
         return Err(fault_at(all, LogKind::Algorithms, rest));
     }
@@ -110,11 +78,11 @@ fn algorithm<'a>(
 
 fn algorithms(
     alloc: Global,
-    all: u32,
+    all: usize,
     count: u32,
     bytes: &[u8],
 ) -> Result<(Vec<Algorithm>, &[u8]), LogError>
-    ensures exact { Gives (λ x. (x.0.items, x.1.now)) result (algorithms_at all count [] bytes.now) }
+    ensures exact { Gives (λ x. (x.0.items, x.1.now)) result (repeat_at (algorithm_at all) count [] bytes.now) }
     ensures sized { IfOk result (λ x. AreSized x.0.items) }
     ensures few { IfOk result (λ x. length x.0.items ≤ count) }
 {
@@ -129,13 +97,13 @@ fn algorithms(
 }
 
 /// The algorithms behind their number.
-#[tactic(auto, unfolding(crate::specs::Reading::named_at))]
-fn named(alloc: Global, all: u32, bytes: &[u8]) -> Result<(Vec<Algorithm>, &[u8]), LogError>
+#[tactic(auto, unfolding(crate::specs::Reading::named_at, pl_layout::specs::Reading::counted_at))]
+fn named(alloc: Global, all: usize, bytes: &[u8]) -> Result<(Vec<Algorithm>, &[u8]), LogError>
     ensures exact { Gives (λ x. (x.0.items, x.1.now)) result (named_at all bytes.now) }
     ensures sized { IfOk result (λ x. AreSized x.0.items) }
     ensures few { IfOk result (λ x. length x.0.items ≤ 16) }
 {
-    let (count, rest) = u32_at(all, bytes)?;
+    let (count, rest) = read_u32_le::<LogError>(all, bytes)?;
     if count < 1 || 16 < count {
         return Err(fault_at(all, LogKind::Algorithms, bytes));
     }
@@ -146,7 +114,7 @@ fn named(alloc: Global, all: u32, bytes: &[u8]) -> Result<(Vec<Algorithm>, &[u8]
 #[tactic(auto, unfolding(crate::specs::Reading::vendor_at))]
 fn vendor(
     alloc: Global,
-    all: u32,
+    all: usize,
     size: u32,
     algorithms: usize,
     bytes: &[u8],
@@ -154,7 +122,7 @@ fn vendor(
     requires { algorithms ≤ 16 }
     ensures { Gives (λ x. (x.0.items, x.1.now)) result (vendor_at all size algorithms bytes.now) }
 {
-    let (len, rest) = u8_at(all, bytes)?;
+    let (len, rest) = read_u8::<LogError>(all, bytes)?;
     let len = len as usize;
     if size as usize != 29 + 4 * algorithms + len {
         return Err(LogError::Malformed {
@@ -162,20 +130,20 @@ fn vendor(
             kind: LogKind::SpecSize,
         });
     }
-    let (vendor, rest) = slice_at(all, len, rest)?;
+    let (vendor, rest) = read_bytes::<LogError>(all, len, rest)?;
     Ok((Vec::from_slice(alloc, vendor)?, rest))
 }
 
 /// The platform's class and the versions, in a value that has nothing else yet.
 #[tactic(auto, unfolding(crate::specs::Reading::class_at))]
-fn class(alloc: Global, all: u32, bytes: &[u8]) -> Result<(SpecId, &[u8]), LogError>
+fn class(alloc: Global, all: usize, bytes: &[u8]) -> Result<(SpecId, &[u8]), LogError>
     ensures { Gives (λ x. (x.0, x.1.now)) result (class_at all bytes.now) }
 {
-    let (platform, rest) = u32_at(all, bytes)?;
-    let (minor, rest) = u8_at(all, rest)?;
-    let (major, rest) = u8_at(all, rest)?;
-    let (errata, rest) = u8_at(all, rest)?;
-    let (uintn, rest) = u8_at(all, rest)?;
+    let (platform, rest) = read_u32_le::<LogError>(all, bytes)?;
+    let (minor, rest) = read_u8::<LogError>(all, rest)?;
+    let (major, rest) = read_u8::<LogError>(all, rest)?;
+    let (errata, rest) = read_u8::<LogError>(all, rest)?;
+    let (uintn, rest) = read_u8::<LogError>(all, rest)?;
     let class = SpecId {
         platform,
         minor,
@@ -189,7 +157,7 @@ fn class(alloc: Global, all: u32, bytes: &[u8]) -> Result<(SpecId, &[u8]), LogEr
 }
 
 #[tactic(auto, unfolding(crate::specs::Reading::spec_at))]
-fn spec(alloc: Global, all: u32, bytes: &[u8]) -> Result<(SpecId, &[u8]), LogError>
+fn spec(alloc: Global, all: usize, bytes: &[u8]) -> Result<(SpecId, &[u8]), LogError>
     ensures exact { Gives (λ x. (x.0, x.1.now)) result (spec_at all bytes.now) }
     ensures sized { IfOk result (λ x. AreSized x.0.algorithms) }
 {
@@ -213,7 +181,7 @@ pub(crate) fn has_digest(digests: &[Tagged], algorithm: u16) -> bool
 /// A digest of one of the algorithms, none of those before it.
 #[tactic(auto, unfolding(crate::specs::Reading::tagged_at))]
 fn tagged<'a>(
-    all: u32,
+    all: usize,
     algorithms: &[Algorithm],
     before: &[Tagged],
     bytes: &'a [u8],
@@ -221,29 +189,27 @@ fn tagged<'a>(
     requires { AreSized algorithms.now }
     ensures { Gives (λ x. (x.0, x.1.now)) result (tagged_at all algorithms.now before.now bytes.now) }
 {
-    let (algorithm, rest) = u16_at(all, bytes)?;
+    let (algorithm, rest) = read_u16_le::<LogError>(all, bytes)?;
     if has_digest(before, algorithm) {
         return Err(fault_at(all, LogKind::DigestAlgorithm, bytes));
     }
     let Some(size) = size_of_number(algorithms, algorithm) else {
         return Err(fault_at(all, LogKind::DigestAlgorithm, bytes));
     };
-    let (digest, rest) = slice_at(all, size as usize, rest)?;
-    let Some(digest) = Digest::from_slice(digest) else {
-        unreachable!()
-    };
+    let (digest, rest) = read_bytes::<LogError>(all, size as usize, rest)?;
+    let digest = digest_of(digest);
     Ok((Tagged { algorithm, digest }, rest))
 }
 
 fn digests<'a>(
     alloc: Global,
-    all: u32,
+    all: usize,
     algorithms: &[Algorithm],
     count: u32,
     bytes: &'a [u8],
 ) -> Result<(Vec<Tagged>, &'a [u8]), LogError>
     requires { AreSized algorithms.now }
-    ensures { Gives (λ x. (x.0.items, x.1.now)) result (digests_at all algorithms.now count [] bytes.now) }
+    ensures { Gives (λ x. (x.0.items, x.1.now)) result (repeat_at (tagged_at all algorithms.now) count [] bytes.now) }
 {
     let mut read = Vec::with_capacity(alloc, count as usize)?;
     let mut rest = bytes;
@@ -260,17 +226,17 @@ fn digests<'a>(
 }
 
 /// The digests behind their count.
-#[tactic(auto, unfolding(crate::specs::Reading::counted_at))]
+#[tactic(auto, unfolding(crate::specs::Reading::digests_at, pl_layout::specs::Reading::counted_at))]
 fn counted<'a>(
     alloc: Global,
-    all: u32,
+    all: usize,
     algorithms: &[Algorithm],
     bytes: &'a [u8],
 ) -> Result<(Vec<Tagged>, &'a [u8]), LogError>
     requires { AreSized algorithms.now }
-    ensures { Gives (λ x. (x.0.items, x.1.now)) result (counted_at all algorithms.now bytes.now) }
+    ensures { Gives (λ x. (x.0.items, x.1.now)) result (digests_at all algorithms.now bytes.now) }
 {
-    let (count, rest) = u32_at(all, bytes)?;
+    let (count, rest) = read_u32_le::<LogError>(all, bytes)?;
     if count < 1 || algorithms.len() < count as usize {
         return Err(fault_at(all, LogKind::Count, bytes));
     }
@@ -279,25 +245,25 @@ fn counted<'a>(
 
 /// The event behind its size.
 #[tactic(auto, unfolding(crate::specs::Reading::event_at))]
-fn event(all: u32, bytes: &[u8]) -> Result<(&[u8], &[u8]), LogError>
+fn event(all: usize, bytes: &[u8]) -> Result<(&[u8], &[u8]), LogError>
     ensures { Gives (λ x. (x.0.now, x.1.now)) result (event_at all bytes.now) }
 {
-    let (size, rest) = u32_at(all, bytes)?;
-    slice_at(all, size as usize, rest)
+    let (size, rest) = read_u32_le::<LogError>(all, bytes)?;
+    read_bytes(all, size as usize, rest)
 }
 
 #[tactic(auto, unfolding(crate::specs::Reading::record_at))]
 fn record<'a>(
     alloc: Global,
-    all: u32,
+    all: usize,
     algorithms: &[Algorithm],
     bytes: &'a [u8],
 ) -> Result<(FirmwareRecord, &'a [u8]), LogError>
     requires { AreSized algorithms.now }
     ensures { Gives (λ x. (x.0, x.1.now)) result (record_at all algorithms.now bytes.now) }
 {
-    let (pcr, rest) = u32_at(all, bytes)?;
-    let (kind, rest) = u32_at(all, rest)?;
+    let (pcr, rest) = read_u32_le::<LogError>(all, bytes)?;
+    let (kind, rest) = read_u32_le::<LogError>(all, rest)?;
     if kind != EV_NO_ACTION && 23 < pcr {
         return Err(fault_at(all, LogKind::PcrNumber, bytes));
     }
@@ -315,7 +281,7 @@ fn record<'a>(
 /// The records to the end of the bytes, of which there may be this many.
 fn records(
     alloc: Global,
-    all: u32,
+    all: usize,
     algorithms: &[Algorithm],
     limit: usize,
     bytes: &[u8],
@@ -342,10 +308,9 @@ fn records(
 
 #[tactic(auto, unfolding(crate::specs::Reading::log_at))]
 fn log(alloc: Global, bytes: &[u8]) -> Result<FirmwareLog, LogError>
-    requires { length bytes.now < 2 ^ 32 }
     ensures { Gives (λ x. x) result (log_at bytes.now) }
 {
-    let all = bytes.len() as u32;
+    let all = bytes.len();
     let (spec, rest) = spec(alloc, all, bytes)?;
     let records = records(alloc, all, spec.algorithms.as_slice(), RECORDS, rest)?;
     Ok(FirmwareLog {

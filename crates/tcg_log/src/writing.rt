@@ -1,5 +1,4 @@
 ghost use Rattle.std.specs.Prelude.{◌≡◌, ◌<◌, ◌^◌, ◌++◌, length, OnOk, IfOk};
-ghost use Rattle.std.specs.Int.{w16, w32, to_le_bytes};
 ghost use Rattle.std.specs.List.{flat_map};
 ghost use Rattle.tcg_log.specs.Text.{tagged_text, digests_text, event_text, record_text, algorithm_text, algorithms_text, class_text, vendor_text, event_size, head_text, spec_text};
 ghost use Rattle.tcg_log.specs.Allowed.{FirmwareText, IsWritable};
@@ -8,32 +7,14 @@ use crate::log::FirmwareLog;
 use crate::reading::SIGNATURE;
 use crate::record::{EV_NO_ACTION, FirmwareRecord, Tagged};
 use crate::spec_id::{Algorithm, SpecId};
-use byteorder::{ByteOrder, LittleEndian};
 use pl_base::Memory;
+use pl_layout::{put_u16_le, put_u32_le};
 use std::alloc::Global;
-
-fn put_u16(out: &mut Vec<u8>, number: u16) -> Result<(), Memory>
-    ensures { OnOk result (out.new.items ≡ out.old.items ++ to_le_bytes w16 number) }
-{
-    let mut bytes = [0; 2];
-    LittleEndian::write_u16(&mut bytes, number);
-    out.extend_from_slice(&bytes)?;
-    Ok(())
-}
-
-fn put_u32(out: &mut Vec<u8>, number: u32) -> Result<(), Memory>
-    ensures { OnOk result (out.new.items ≡ out.old.items ++ to_le_bytes w32 number) }
-{
-    let mut bytes = [0; 4];
-    LittleEndian::write_u32(&mut bytes, number);
-    out.extend_from_slice(&bytes)?;
-    Ok(())
-}
 
 fn put_tagged(out: &mut Vec<u8>, tagged: &Tagged) -> Result<(), Memory>
     ensures { OnOk result (out.new.items ≡ out.old.items ++ tagged_text tagged.now) }
 {
-    put_u16(out, tagged.algorithm)?;
+    put_u16_le(out, tagged.algorithm)?;
     out.extend_from_slice(tagged.digest.as_slice())?;
     Ok(())
 }
@@ -42,7 +23,7 @@ fn put_digests(out: &mut Vec<u8>, digests: &[Tagged]) -> Result<(), Memory>
     requires { length digests.now < 2 ^ 32 }
     ensures { OnOk result (out.new.items ≡ out.old.items ++ digests_text digests.now) }
 {
-    put_u32(out, digests.len() as u32)?;
+    put_u32_le(out, digests.len() as u32)?;
     for tagged in digests {
         put_tagged(out, tagged)?;
     }
@@ -53,7 +34,7 @@ fn put_event(out: &mut Vec<u8>, event: &[u8]) -> Result<(), Memory>
     requires { length event.now < 2 ^ 32 }
     ensures { OnOk result (out.new.items ≡ out.old.items ++ event_text event.now) }
 {
-    put_u32(out, event.len() as u32)?;
+    put_u32_le(out, event.len() as u32)?;
     out.extend_from_slice(event)?;
     Ok(())
 }
@@ -63,8 +44,8 @@ fn put_record(out: &mut Vec<u8>, record: &FirmwareRecord) -> Result<(), Memory>
     requires event { length record.now.event < 2 ^ 32 }
     ensures { OnOk result (out.new.items ≡ out.old.items ++ record_text record.now) }
 {
-    put_u32(out, record.pcr)?;
-    put_u32(out, record.kind)?;
+    put_u32_le(out, record.pcr)?;
+    put_u32_le(out, record.kind)?;
     put_digests(out, record.digests.as_slice())?;
     put_event(out, record.event.as_slice())?;
     Ok(())
@@ -74,10 +55,10 @@ fn put_algorithms(out: &mut Vec<u8>, algorithms: &[Algorithm]) -> Result<(), Mem
     requires { length algorithms.now < 2 ^ 32 }
     ensures { OnOk result (out.new.items ≡ out.old.items ++ algorithms_text algorithms.now) }
 {
-    put_u32(out, algorithms.len() as u32)?;
+    put_u32_le(out, algorithms.len() as u32)?;
     for algorithm in algorithms {
-        put_u16(out, algorithm.number)?;
-        put_u16(out, algorithm.size)?;
+        put_u16_le(out, algorithm.number)?;
+        put_u16_le(out, algorithm.size)?;
     }
     Ok(())
 }
@@ -86,17 +67,17 @@ fn put_algorithms(out: &mut Vec<u8>, algorithms: &[Algorithm]) -> Result<(), Mem
 fn put_head(out: &mut Vec<u8>, size: u32) -> Result<(), Memory>
     ensures { OnOk result (out.new.items ≡ out.old.items ++ head_text size) }
 {
-    put_u32(out, 0)?;
-    put_u32(out, EV_NO_ACTION)?;
+    put_u32_le(out, 0)?;
+    put_u32_le(out, EV_NO_ACTION)?;
     out.extend_from_slice(&[0; 20])?;
-    put_u32(out, size)?;
+    put_u32_le(out, size)?;
     Ok(())
 }
 
 fn put_class(out: &mut Vec<u8>, spec: &SpecId) -> Result<(), Memory>
     ensures { OnOk result (out.new.items ≡ out.old.items ++ class_text spec.now) }
 {
-    put_u32(out, spec.platform)?;
+    put_u32_le(out, spec.platform)?;
     out.extend_from_slice(&[spec.minor, spec.major, spec.errata, spec.uintn])?;
     Ok(())
 }

@@ -5,13 +5,13 @@ use Rattle.pl_layout.specs.Reading.{bytes_at}
 use Rattle.pl_layout.proofs.Loops.{go_on, finish}
 use Rattle.policy_file.specs.declared.error.FileKind.TheVariants.{Cut}
 use Rattle.policy_file.specs.PolicyReading.{fault, values_at}
-use Rattle.policy_file.proofs.Loops.{end}
+use Rattle.policy_file.proofs.Loops.{end, told}
 use Rattle.policy_file.proofs.rows.read_values.Goals as goal
 
 pub returns-in_err-next-clause-exact : goal.returns-in_err-next-clause-exact
 returns-in_err-next-clause-exact c =
     let p = err_from_is_err_and c.from_residual.result c.from_residual.ensures.1 in
-    rw (p.1, p.2) (end c.in_err-next.field-0.0 (λ before. bytes_at (fault Cut c.args.all) (size_in c.args.bank)) c.args.count c.loop.counter c.loop.values.items c.loop.rest.now (values_at c.args.all c.args.bank c.args.count c.args.bytes.now) c.loop-test.true c.loop.invariant.exact c.in_err-next.ensures.exact)
+    rw (p.1, p.2) (end c.in_err-next.field-0.0 (λ before. bytes_at (fault Cut c.args.all) (size_in c.args.bank)) c.args.count c.loop.counter c.loop.values.items c.loop.rest.now (values_at c.args.all c.args.bank c.args.count c.args.bytes.now) c.loop-test.true c.loop.invariant.exact (told c.in_err-next.field-0.0 _ c.in_err-next.ensures.exact))
 
 pub loop-preserved : goal.loop-preserved
 loop-preserved c = record {
