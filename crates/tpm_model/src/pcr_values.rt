@@ -48,6 +48,14 @@ impl PcrValues {
         }
     }
 
+    /// Takes over the values of others.
+    pub(crate) fn copy_from(&mut self, others: &PcrValues)
+        ensures { self.new ≡ others.now }
+    {
+        self.room.copy_from_slice(&others.room);
+        self.count = others.count;
+    }
+
     /// The values in order.
     pub(crate) fn as_slice(&self) -> &[Digest]
         ensures value { result.now ≡ self.now }

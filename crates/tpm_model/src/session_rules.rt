@@ -92,18 +92,11 @@ pub(crate) fn keeps_fold(parts: &Parts) -> bool
     true
 }
 
-/// Whether two digests are the same.
-fn is_same(before: &Digest, digest: &Digest) -> bool
-    ensures { result ≡ bytes_eq before.now digest.now }
-{
-    before.as_slice() == digest.as_slice()
-}
-
 /// Whether a list has this digest.
 pub(crate) fn is_listed(before: &Digest, list: &[Digest]) -> bool
     ensures { result ≡ list_any (bytes_eq before.now) list.now }
 {
-    list.iter().any(|digest| is_same(before, digest))
+    list.iter().any(|digest| before.is_same(digest))
 }
 
 /// Whether an entry, where it is a PolicyOR, lists this digest.

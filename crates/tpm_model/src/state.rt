@@ -119,6 +119,32 @@ impl State {
         })
     }
 
+    /// Makes the state equal to another, in its place. Where memory runs out it stays as it is.
+    pub fn copy_from(&mut self, alloc: Global, other: &State) -> Result<(), Memory>
+        ensures ok { IfOk result (λ _. self.new ≡ other.now) }
+        ensures err { OnErr result (self.new ≡ self.old) }
+    {
+        let Ok(sessions) = copied_sessions(alloc, other.held.sessions.as_slice()) else {
+            return Err(Memory);
+        };
+        let Ok(indices) = copied_indices(alloc, &other.held.indices) else {
+            return Err(Memory);
+        };
+        let Ok(objects) = Vec::from_slice(alloc, other.held.objects.as_slice()) else {
+            return Err(Memory);
+        };
+        self.held.banks = other.held.banks;
+        self.held.pcrs.copy_from(&other.held.pcrs);
+        self.held.update_counter = other.held.update_counter;
+        self.held.next_session = other.held.next_session;
+        self.held.write_counter = other.held.write_counter;
+        self.held.next_object = other.held.next_object;
+        self.held.sessions = sessions;
+        self.held.indices = indices;
+        self.held.objects = List::from_vec(objects);
+        Ok(())
+    }
+
     /// The present banks.
     pub fn banks(&self) -> Banks
         ensures { result ≡ self.now.banks }

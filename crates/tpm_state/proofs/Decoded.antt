@@ -1,8 +1,10 @@
 -- A state that is read is spelled so, and what is spelled so is read.
-use Rattle.std.proofs.Common.{◌≡◌, ◌⊎◌, ℕ, ◌+◌, ◌≤◌, Bool, true, false, cond, leb, ◌&&◌, List, [], ◌∷◌, ◌++◌, length, Option, Some, None, Result, Ok, Err, refl, inl, inr, sym, ap, subst, ◌∙◌, arith}
+use Rattle.std.proofs.Common.{◌≡◌, ℕ, ◌≤◌, Bool, true, false, cond, leb, ◌&&◌, List, Option, Some, None, Result, Ok, Err, refl, inl, inr, ap, subst, ◌∙◌, arith}
 use Rattle.std.specs.Prelude.{IfOk}
-use Rattle.std.proofs.lemmas.Bool.{leb-true, le-leb, and_parts}
+use Rattle.std.proofs.lemmas.Bool.{leb-true}
 use Rattle.hash_bank.specs.declared.banks.Banks.{Banks}
+use Rattle.pl_layout.proofs.Steps.{bind_ok, bind_eq}
+use Rattle.pl_layout.proofs.Fields.{IsBytes}
 use Rattle.tpm_model.specs.declared.parts.Parts.{Parts}
 use Rattle.tpm_model.specs.declared.rules.StateRule.{StateRule}
 use Rattle.tpm_model.specs.Pcrs.{bank_count}
@@ -13,13 +15,12 @@ use Rattle.tpm_state.specs.declared.error.DecodeError.{DecodeError}
 use Rattle.tpm_state.specs.declared.error.DecodeError.TheVariants.{BadRule}
 use Rattle.tpm_state.specs.declared.version.Version.{Version}
 use Rattle.tpm_state.specs.declared.version.Version.TheVariants.{One, Two}
-use Rattle.tpm_state.specs.Field.{◌>>=◌, Gives}
+use Rattle.tpm_state.specs.Field.{Gives}
 use Rattle.tpm_state.specs.Header.{banks_byte}
 use Rattle.tpm_state.specs.Layout.{text_of, HasLayout, layout_at}
 use Rattle.tpm_state.specs.Decoding.{unless_broken, ruled, state_of}
-use Rattle.tpm_state.specs.Spelling.{IsOfSha256, IsSpelled}
-use Rattle.tpm_state.proofs.Fields.{bind_ok, bind_eq, IsBytes}
-use Rattle.tpm_state.proofs.LayoutLaws.{LayoutTaken, layout_takes, layout_is_text, layout_again}
+use Rattle.tpm_state.specs.Spelling.{IsSpelled}
+use Rattle.tpm_state.proofs.LayoutLaws.{layout_takes, layout_is_text, layout_again}
 use Rattle.tpm_state.proofs.Shapes.{laid_shape, rules_laid, one_laid, laid_one}
 
 -- what was laid out has the shape that a state from outside must have

@@ -1,20 +1,22 @@
 -- Entries of a trail that are read are spelled so, and what is spelled so is read.
-use Rattle.std.proofs.Common.{◌≡◌, ◌⊎◌, ℕ, suc, ◌+◌, ◌*◌, ◌/◌, ◌%◌, ◌^◌, ◌<◌, ◌≤◌, Bool, true, false, cond, leb, eqb, ◌&&◌, List, [], ◌∷◌, ◌++◌, length, get_or, Option, Some, None, Result, Ok, Err, refl, sym, ap, subst, ◌∙◌, arith, inl, inr, lit<}
+use Rattle.std.proofs.Common.{◌≡◌, ℕ, ◌+◌, ◌*◌, ◌/◌, ◌%◌, ◌^◌, ◌<◌, eqb, List, [], ◌∷◌, ◌++◌, length, get_or, Option, Some, None, Ok, Err, refl, sym, ap, subst, ◌∙◌, arith, inl, inr, lit<}
 use Rattle.std.specs.Prelude.{ok_or}
-use Rattle.std.specs.List.{flat_map, AllByRecursion}
 use Rattle.std.specs.Int.{w16, w32, to_be_bytes}
-use Rattle.std.proofs.lemmas.Bool.{eqb-true, leb-true, le-leb}
+use Rattle.std.proofs.lemmas.Bool.{eqb-true}
 use Rattle.hash_bank.specs.declared.bank.Bank.{Bank}
 use Rattle.hash_bank.specs.declared.bank.Bank.TheVariants.{Sha1, Sha256, Sha384, Sha512}
 use Rattle.hash_bank.specs.Hash.{size_in, algorithm_in, bank_of_algorithm}
+use Rattle.pl_layout.specs.Reading.{bytes_at}
+use Rattle.pl_layout.proofs.Steps.{bind_ok, bind_eq, on_test, ok_is}
+use Rattle.pl_layout.proofs.Fields.{IsBytes, Takes, Takes-then, Takes-byte, Taken, Grammar, bytes_take, bytes_again, bytes_grammar, wide16, wide32, number_grammar, byte_takes}
+use Rattle.pl_layout.proofs.Repeats.{ListFits}
 use Rattle.tpm_model.specs.declared.trail.TrailEntry.{TrailEntry}
 use Rattle.tpm_model.specs.declared.trail.TrailEntry.TheVariants.{Pcr, Or, AuthorizeNv}
 use Rattle.tpm_state.specs.declared.error.DecodeError.{DecodeError}
-use Rattle.tpm_state.specs.Field.{◌>>=◌, fault, bytes_at, number_at, byte_at, repeat_at, counted_text, digest_text}
+use Rattle.tpm_state.specs.Field.{fault, counted_at, counted_text, digest_text}
 use Rattle.tpm_state.specs.Entries.{mask_text, entry_text, EntryFits, mask_at, bank_number_at, pcr_entry_at, or_entry_at, nv_entry_at, entry_at}
 use Rattle.tpm_state.proofs.Appends.{regroup_three}
-use Rattle.tpm_state.proofs.Fields.{bind_ok, bind_eq, on_test, skip_test, take_test, passed, ok_is, IsBytes, Takes, Takes-then, Takes-byte, Taken, Grammar, bytes_take, bytes_again, bytes_grammar, wide16, wide32, number_grammar, byte_takes}
-use Rattle.tpm_state.proofs.Repeats.{repeat_take, repeat_again}
+use Rattle.tpm_state.proofs.Counted.{counted_grammar}
 
 -- ---- the mask
 
@@ -40,7 +42,7 @@ mask_takes : (all : ℕ) (bytes : List ℕ) (x : ℕ × List ℕ) → IsBytes by
 unfolding mask_at
 mask_takes all bytes x fits e =
     let a = bind_ok e in
-    let t = bytes_take all 3 bytes a.value fits a.first in
+    let t = bytes_take (fault all) 3 bytes a.value fits a.first in
     let m = get_or a.value.0 0 0 + 256 * get_or a.value.0 1 0 + 65536 * get_or a.value.0 2 0 in
     subst (λ (y : ℕ × List ℕ). Taken mask_text (λ m. m < 2 ^ 24) bytes y) (ok_is (m, a.value.1) x a.second) (record {
       takes = subst (λ (text : List ℕ). Takes bytes text a.value.1) (sym (mask_back a.value.0 t.count t.fits)) t.takes;
@@ -50,7 +52,7 @@ mask_takes all bytes x fits e =
 mask_again : (all m : ℕ) (rest : List ℕ) → m < 2 ^ 24 → mask_at all (mask_text m ++ rest) ≡ Ok (m, rest)
 unfolding mask_at
 mask_again all m rest lt =
-    bind_eq _ (mask_text m, rest) (bytes_again all 3 (mask_text m) rest refl) (ap (λ (n : ℕ). Ok (n, rest)) (mask_value m lt))
+    bind_eq _ (mask_text m, rest) (bytes_again (fault all) 3 (mask_text m) rest refl) (ap (λ (n : ℕ). Ok (n, rest)) (mask_value m lt))
 
 -- ---- the bank
 
@@ -85,7 +87,7 @@ unfolding bank_number_at
 bank_number_takes all bytes x fits e =
     let a = bind_ok e in
     let b = bind_ok a.second in
-    let t = (number_grammar wide16 all).takes bytes a.value fits a.first in
+    let t = (number_grammar wide16 (fault all)).takes bytes a.value fits a.first in
     let is : a.value.0 ≡ algorithm_in b.value = bank_back a.value.0 b.value (ok_or_some _ _ b.value b.first) in
     subst (λ (y : Bank × List ℕ). Takes bytes (to_be_bytes w16 (algorithm_in y.0)) y.1) (ok_is (b.value, a.value.1) x b.second)
     (subst (λ (n : ℕ). Takes bytes (to_be_bytes w16 n) a.value.1) is t.takes)
@@ -105,7 +107,7 @@ bank_there Sha512 = refl
 bank_number_again : (all : ℕ) (b : Bank) (rest : List ℕ) → bank_number_at all (to_be_bytes w16 (algorithm_in b) ++ rest) ≡ Ok (b, rest)
 unfolding bank_number_at
 bank_number_again all b rest =
-    bind_eq _ (algorithm_in b, rest) ((number_grammar wide16 all).again (algorithm_in b) rest (algorithm_below b))
+    bind_eq _ (algorithm_in b, rest) ((number_grammar wide16 (fault all)).again (algorithm_in b) rest (algorithm_below b))
     (bind_eq _ b (ap (λ (o : Option Bank). ok_or o (fault all (to_be_bytes w16 (algorithm_in b) ++ rest))) (bank_there b)) refl)
 
 -- ---- entries behind their tag
@@ -118,7 +120,7 @@ pcr_takes all hash bytes x fits e =
     let c = bind_ok b.second in
     let bank = bank_number_takes all bytes a.value fits a.first in
     let mask = mask_takes all a.value.1 b.value bank.rest_fits b.first in
-    let values = bytes_take all (size_in hash) b.value.1 c.value mask.takes.rest_fits c.first in
+    let values = bytes_take (fault all) (size_in hash) b.value.1 c.value mask.takes.rest_fits c.first in
     let made : TrailEntry × List ℕ = (Pcr a.value.0 b.value.0 c.value.0, c.value.1) in
     subst (λ (y : TrailEntry × List ℕ). Taken entry_text (EntryFits hash) (1 ∷ bytes) y) (ok_is made x c.second) (record {
       takes = Takes-then (Takes-byte 1 bytes fits) (Takes-then bank (Takes-then mask.takes values.takes));
@@ -132,37 +134,26 @@ pcr_again all hash bank pcrs values rest lt len =
     ap (pcr_entry_at all hash) (regroup_three (to_be_bytes w16 (algorithm_in bank)) (mask_text pcrs) values rest)
     ∙ bind_eq _ (bank, mask_text pcrs ++ (values ++ rest)) (bank_number_again all bank (mask_text pcrs ++ (values ++ rest)))
     (bind_eq _ (pcrs, values ++ rest) (mask_again all pcrs (values ++ rest) lt)
-    (bind_eq _ (values, rest) (bytes_again all (size_in hash) values rest len) refl))
+    (bind_eq _ (values, rest) (bytes_again (fault all) (size_in hash) values rest len) refl))
+
+-- the digests of a PolicyOR
+digests_grammar : (all : ℕ) (hash : Bank) → Grammar (counted_at all 2 8 (bytes_at (fault all) (size_in hash))) (counted_text digest_text) (ListFits 2 8 (λ digest. length digest ≡ size_in hash))
+digests_grammar all hash = counted_grammar (bytes_grammar (fault all) (size_in hash)) all 2 8 (lit< tt)
 
 or_takes : (all : ℕ) (hash : Bank) (bytes : List ℕ) (x : TrailEntry × List ℕ) → IsBytes bytes → or_entry_at all hash bytes ≡ Ok x → Taken entry_text (EntryFits hash) (2 ∷ bytes) x
 unfolding or_entry_at
 or_takes all hash bytes x fits e =
     let a = bind_ok e in
-    let b = bind_ok a.second in
-    let t = passed _ b.first in
-    let h = both (leb 2 a.value.0) (leb a.value.0 8) t.0 in
-    let count = byte_takes all bytes a.value fits a.first in
-    let list = repeat_take (bytes_grammar all (size_in hash)) a.value.0 [] a.value.1 b.value count.rest_fits t.1 in
-    let behind : Takes bytes (length list.more ∷ flat_map digest_text list.more) b.value.1 = subst (λ (n : ℕ). Takes bytes (n ∷ flat_map digest_text list.more) b.value.1) (sym list.count) (Takes-then count list.takes) in
-    let made : TrailEntry × List ℕ = (Or list.more, b.value.1) in
-    let same : made ≡ x = ap (λ (l : List (List ℕ)). (Or l, b.value.1)) (sym list.whole) ∙ ok_is (Or b.value.0, b.value.1) x b.second in
-    let few : 2 ≤ length list.more = omega (arith, leb-true _ _ h.0, list.count) in
-    let most : length list.more ≤ 8 = omega (arith, leb-true _ _ h.1, list.count) in
-    subst (λ (y : TrailEntry × List ℕ). Taken entry_text (EntryFits hash) (2 ∷ bytes) y) same (record {
-      takes = Takes-then (Takes-byte 2 bytes fits) behind;
-      fits = (few, most, list.fits);
+    let list = (digests_grammar all hash).takes bytes a.value fits a.first in
+    let made : TrailEntry × List ℕ = (Or a.value.0, a.value.1) in
+    subst (λ (y : TrailEntry × List ℕ). Taken entry_text (EntryFits hash) (2 ∷ bytes) y) (ok_is made x a.second) (record {
+      takes = Takes-then (Takes-byte 2 bytes fits) list.takes;
+      fits = list.fits;
     })
-  where
-    both : (a b : Bool) → (a && b) ≡ true → (a ≡ true) × (b ≡ true)
-    both true b e = (refl, e)
-    both false b e = absurd cc
 
-or_again : (all : ℕ) (hash : Bank) (list : List (List ℕ)) (rest : List ℕ) → 2 ≤ length list → length list ≤ 8 → AllByRecursion (λ digest. length digest ≡ size_in hash) list
-    → or_entry_at all hash (counted_text digest_text list ++ rest) ≡ Ok (Or list, rest)
+or_again : (all : ℕ) (hash : Bank) (list : List (List ℕ)) (rest : List ℕ) → ListFits 2 8 (λ digest. length digest ≡ size_in hash) list → or_entry_at all hash (counted_text digest_text list ++ rest) ≡ Ok (Or list, rest)
 unfolding or_entry_at
-or_again all hash list rest few most fits =
-    let test : (leb 2 (length list) && leb (length list) 8) ≡ true = rw (le-leb _ _ few, le-leb _ _ most) refl in
-    bind_eq _ (list, rest) (take_test (leb 2 (length list) && leb (length list) 8) _ test (repeat_again (bytes_grammar all (size_in hash)) [] list rest fits)) refl
+or_again all hash list rest fits = bind_eq _ (list, rest) ((digests_grammar all hash).again list rest fits) refl
 
 nv_takes : (all : ℕ) (hash : Bank) (bytes : List ℕ) (x : TrailEntry × List ℕ) → IsBytes bytes → nv_entry_at all bytes ≡ Ok x → Taken entry_text (EntryFits hash) (3 ∷ bytes) x
 unfolding nv_entry_at
@@ -170,9 +161,9 @@ nv_takes all hash bytes x fits e =
     let a = bind_ok e in
     let b = bind_ok a.second in
     let c = bind_ok b.second in
-    let name = bytes_take all 32 bytes a.value fits a.first in
-    let digest = bytes_take all 32 a.value.1 b.value name.takes.rest_fits b.first in
-    let written = (number_grammar wide32 all).takes b.value.1 c.value digest.takes.rest_fits c.first in
+    let name = bytes_take (fault all) 32 bytes a.value fits a.first in
+    let digest = bytes_take (fault all) 32 a.value.1 b.value name.takes.rest_fits b.first in
+    let written = (number_grammar wide32 (fault all)).takes b.value.1 c.value digest.takes.rest_fits c.first in
     let made : TrailEntry × List ℕ = (AuthorizeNv a.value.0 b.value.0 c.value.0, c.value.1) in
     subst (λ (y : TrailEntry × List ℕ). Taken entry_text (EntryFits hash) (3 ∷ bytes) y) (ok_is made x c.second) (record {
       takes = Takes-then (Takes-byte 3 bytes fits) (Takes-then name.takes (Takes-then digest.takes written.takes));
@@ -184,9 +175,9 @@ nv_again : (all : ℕ) (name digest : List ℕ) (written : ℕ) (rest : List ℕ
 unfolding nv_entry_at
 nv_again all name digest written rest name_len digest_len lt =
     ap (nv_entry_at all) (regroup_three name digest (to_be_bytes w32 written) rest)
-    ∙ bind_eq _ (name, digest ++ (to_be_bytes w32 written ++ rest)) (bytes_again all 32 name (digest ++ (to_be_bytes w32 written ++ rest)) name_len)
-    (bind_eq _ (digest, to_be_bytes w32 written ++ rest) (bytes_again all 32 digest (to_be_bytes w32 written ++ rest) digest_len)
-    (bind_eq _ (written, rest) ((number_grammar wide32 all).again written rest lt) refl))
+    ∙ bind_eq _ (name, digest ++ (to_be_bytes w32 written ++ rest)) (bytes_again (fault all) 32 name (digest ++ (to_be_bytes w32 written ++ rest)) name_len)
+    (bind_eq _ (digest, to_be_bytes w32 written ++ rest) (bytes_again (fault all) 32 digest (to_be_bytes w32 written ++ rest) digest_len)
+    (bind_eq _ (written, rest) ((number_grammar wide32 (fault all)).again written rest lt) refl))
 
 -- ---- an entry
 
@@ -202,7 +193,7 @@ entry_takes : (all : ℕ) (hash : Bank) (bytes : List ℕ) (x : TrailEntry × Li
 unfolding entry_at
 entry_takes all hash bytes x fits e =
     let a = bind_ok e in
-    let first = byte_takes all bytes a.value fits a.first in
+    let first = byte_takes (fault all) bytes a.value fits a.first in
     elim (on_test (eqb a.value.0 1) a.second) [
       | inl p ↦ behind_tag hash a.value.0 1 bytes a.value.1 x (eqb-true _ _ p.0) first (pcr_takes all hash a.value.1 x first.rest_fits p.1)
       | inr q ↦ elim (on_test (eqb a.value.0 2) q.1) [
@@ -217,7 +208,7 @@ entry_takes all hash bytes x fits e =
 entry_again : (all : ℕ) (hash : Bank) (entry : TrailEntry) (rest : List ℕ) → EntryFits hash entry → entry_at all hash (entry_text entry ++ rest) ≡ Ok (entry, rest)
 unfolding entry_at
 entry_again all hash (Pcr bank pcrs values) rest fits = pcr_again all hash bank pcrs values rest fits.0 fits.1
-entry_again all hash (Or list) rest fits = or_again all hash list rest fits.0 fits.1 fits.2
+entry_again all hash (Or list) rest fits = or_again all hash list rest fits
 entry_again all hash (AuthorizeNv name digest written) rest fits = nv_again all name digest written rest fits.0 fits.1 fits.2
 
 pub entry_grammar : (all : ℕ) (hash : Bank) → Grammar (entry_at all hash) entry_text (EntryFits hash)

@@ -1,5 +1,5 @@
 -- The begin of a state file that is read is spelled so, and what is spelled so is read.
-use Rattle.std.proofs.Common.{◌≡◌, ◌⊎◌, ℕ, zero, suc, ◌+◌, ◌*◌, ◌/◌, ◌%◌, ◌^◌, ◌<◌, ◌≤◌, Bool, true, false, cond, ltb, eqb, List, [], ◌∷◌, ◌++◌, length, map, replicate, Result, Ok, Err, refl, sym, ap, subst, ◌∙◌, append_assoc, arith, inl, inr}
+use Rattle.std.proofs.Common.{◌≡◌, ℕ, zero, suc, ◌+◌, ◌*◌, ◌/◌, ◌%◌, ◌^◌, ◌<◌, ◌≤◌, Bool, true, false, cond, ltb, eqb, List, [], ◌∷◌, ◌++◌, length, map, replicate, Ok, Err, refl, sym, ap, subst, ◌∙◌, append_assoc, arith, inl, inr}
 use Rattle.std.specs.List.{flat_map, AllByRecursion}
 use Rattle.std.specs.Int.{w32, to_be_bytes}
 use Rattle.std.specs.Str.{bytes_eq}
@@ -12,16 +12,18 @@ use Rattle.hash_bank.specs.declared.bank.Bank.{Bank}
 use Rattle.hash_bank.specs.declared.bank.Bank.TheVariants.{Sha1, Sha256, Sha384, Sha512}
 use Rattle.hash_bank.specs.declared.banks.Banks.{Banks}
 use Rattle.hash_bank.specs.Hash.{size_in}
-use Rattle.tpm_model.specs.Pcrs.{HasValues, sizes_of, sizes_if}
+use Rattle.pl_layout.specs.Reading.{bytes_at, repeat_at}
+use Rattle.pl_layout.proofs.Steps.{bind_ok, bind_eq, on_test, skip_test, passed_over, ok_is}
+use Rattle.pl_layout.proofs.Fields.{IsBytes, Takes, Takes-then, Taken, bytes_take, bytes_again, bytes_grammar, wide32, number_grammar}
+use Rattle.pl_layout.proofs.Repeats.{Repeated, nothing_more, repeat_take, repeat_again, each_fits, fits_each}
+use Rattle.tpm_model.specs.Pcrs.{HasValues, sizes_if}
 use Rattle.tpm_state.specs.declared.error.DecodeError.{DecodeError}
 use Rattle.tpm_state.specs.declared.version.Version.{Version}
 use Rattle.tpm_state.specs.declared.version.Version.TheVariants.{One, Two}
 use Rattle.tpm_state.specs.declared.header.Counters.{Counters}
-use Rattle.tpm_state.specs.Field.{◌>>=◌, fault, bytes_at, number_at, repeat_at, digest_text}
+use Rattle.tpm_state.specs.Field.{fault, digest_text}
 use Rattle.tpm_state.specs.Header.{magic_text, weight, banks_byte, values_text, counters_text, version_at, banks_of, bank_at, values_at, counters_at}
 use Rattle.tpm_state.proofs.Appends.{regroup_four}
-use Rattle.tpm_state.proofs.Fields.{bind_ok, bind_eq, on_test, skip_test, passed_over, ok_is, IsBytes, Takes, Takes-then, Taken, Grammar, bytes_take, bytes_again, bytes_grammar, wide32, number_grammar}
-use Rattle.tpm_state.proofs.Repeats.{Repeated, nothing_more, repeat_take, repeat_again}
 
 -- ---- the version
 
@@ -32,7 +34,7 @@ pub version_takes : (all : ℕ) (bytes : List ℕ) (x : Version × List ℕ) →
 unfolding version_at
 version_takes all bytes x fits e =
     let a = bind_ok e in
-    let t = bytes_take all 8 bytes a.value fits a.first in
+    let t = bytes_take (fault all) 8 bytes a.value fits a.first in
     elim (on_test (bytes_eq a.value.0 (magic_text Two)) a.second) [
       | inl p ↦ subst (λ (y : Version × List ℕ). Takes bytes (magic_text y.0) y.1) (ok_is (Two, a.value.1) x p.1)
           (subst (λ (text : List ℕ). Takes bytes text a.value.1) ((bytes_eq-Decides a.value.0 (magic_text Two)).0 p.0) t.takes)
@@ -45,8 +47,8 @@ version_takes all bytes x fits e =
 
 pub version_again : (all : ℕ) (version : Version) (rest : List ℕ) → version_at all (magic_text version ++ rest) ≡ Ok (version, rest)
 unfolding version_at
-version_again all One rest = bind_eq _ (magic_text One, rest) (bytes_again all 8 (magic_text One) rest refl) refl
-version_again all Two rest = bind_eq _ (magic_text Two, rest) (bytes_again all 8 (magic_text Two) rest refl) refl
+version_again all One rest = bind_eq _ (magic_text One, rest) (bytes_again (fault all) 8 (magic_text One) rest refl) refl
+version_again all Two rest = bind_eq _ (magic_text Two, rest) (bytes_again (fault all) 8 (magic_text Two) rest refl) refl
 
 -- ---- the byte of the banks
 
@@ -105,14 +107,14 @@ abbrev pub count_if : Bool → ℕ
 count_if present = cond present 24 0
 
 bank_takes : (all : ℕ) (present : Bool) (bank : Bank) (before : List (List ℕ)) (bytes : List ℕ) (x : List (List ℕ) × List ℕ) → IsBytes bytes → bank_at all present bank before bytes ≡ Ok x
-    → Repeated digest_text (λ digest. length digest ≡ size_in bank) (count_if present) before bytes x
+    → Repeated digest_text (λ b digest. length digest ≡ size_in bank) (count_if present) before bytes x
 unfolding bank_at
 bank_takes all false bank before bytes x fits e =
-    subst (λ (y : List (List ℕ) × List ℕ). Repeated digest_text (λ digest. length digest ≡ size_in bank) 0 before bytes y) (ok_is (before, bytes) x e)
-    (nothing_more digest_text (λ digest. length digest ≡ size_in bank) before bytes fits)
+    subst (λ (y : List (List ℕ) × List ℕ). Repeated digest_text (λ b digest. length digest ≡ size_in bank) 0 before bytes y) (ok_is (before, bytes) x e)
+    (nothing_more digest_text (λ b digest. length digest ≡ size_in bank) before bytes fits)
 bank_takes all true bank before bytes x fits e =
     let g = passed_over _ e in
-    repeat_take (bytes_grammar all (size_in bank)) 24 before bytes x fits g.1
+    repeat_take (λ b. bytes_grammar (fault all) (size_in bank)) 24 before bytes x fits g.1
 
 flat_length : (size : ℕ) (more : List (List ℕ)) → AllByRecursion (λ digest. length digest ≡ size) more → length (flat_map digest_text more) ≡ length more * size
 flat_length size [] fits = sym (zero-mul size)
@@ -128,8 +130,8 @@ bank_again all false bank before more rest count fits =
 bank_again all true bank before more rest count fits =
     let all_of : length (flat_map digest_text more) ≡ 24 * size_in bank = flat_length (size_in bank) more fits ∙ ap (λ (n : ℕ). n * size_in bank) count in
     let long : ltb (length (flat_map digest_text more ++ rest)) (24 * size_in bank) ≡ false = le-ltb _ _ (omega (arith, length-append (flat_map digest_text more) rest)) in
-    let read : repeat_at (bytes_at all (size_in bank)) 24 before (flat_map digest_text more ++ rest) ≡ Ok (before ++ more, rest) =
-    subst (λ (n : ℕ). repeat_at (bytes_at all (size_in bank)) n before (flat_map digest_text more ++ rest) ≡ Ok (before ++ more, rest)) count (repeat_again (bytes_grammar all (size_in bank)) before more rest fits) in
+    let read : repeat_at (λ b. bytes_at (fault all) (size_in bank)) 24 before (flat_map digest_text more ++ rest) ≡ Ok (before ++ more, rest) =
+    subst (λ (n : ℕ). repeat_at (λ b. bytes_at (fault all) (size_in bank)) n before (flat_map digest_text more ++ rest) ≡ Ok (before ++ more, rest)) count (repeat_again (λ b. bytes_grammar (fault all) (size_in bank)) before more rest (fits_each (λ digest. length digest ≡ size_in bank) before more fits)) in
     skip_test (ltb (length (flat_map digest_text more ++ rest)) (24 * size_in bank)) _ long read
 
 -- ---- sizes
@@ -228,8 +230,10 @@ values_takes all banks bytes x fits e =
     values_joined banks bytes x a.more b.more c.more d.more
     (joined b.more c.more d.more a.whole b.whole c.whole d.whole)
     (Takes-then a.takes (Takes-then b.takes (Takes-then c.takes d.takes)))
-    (four_sized banks a.more b.more c.more d.more (sizes_from banks.sha1 20 a.more a.count a.fits) (sizes_from banks.sha256 32 b.more b.count b.fits)
-    (sizes_from banks.sha384 48 c.more c.count c.fits) (sizes_from banks.sha512 64 d.more d.count d.fits))
+    (four_sized banks a.more b.more c.more d.more (sizes_from banks.sha1 20 a.more a.count (each_fits (λ digest. length digest ≡ 20) [] a.more a.fits))
+    (sizes_from banks.sha256 32 b.more b.count (each_fits (λ digest. length digest ≡ 32) p.value.0 b.more b.fits))
+    (sizes_from banks.sha384 48 c.more c.count (each_fits (λ digest. length digest ≡ 48) q.value.0 c.more c.fits))
+    (sizes_from banks.sha512 64 d.more d.count (each_fits (λ digest. length digest ≡ 64) r.value.0 d.more d.fits)))
 
 values_four : (all : ℕ) (banks : Banks) (a b c d : List (List ℕ)) (rest : List ℕ) → Sized banks.sha1 20 a → Sized banks.sha256 32 b → Sized banks.sha384 48 c → Sized banks.sha512 64 d
     → values_at all banks (values_text (((a ++ b) ++ c) ++ d) ++ rest) ≡ Ok (((a ++ b) ++ c) ++ d, rest)
@@ -268,7 +272,7 @@ counters_takes all bytes x fits e =
     let b = bind_ok a.second in
     let c = bind_ok b.second in
     let d = bind_ok c.second in
-    let g = number_grammar wide32 all in
+    let g = number_grammar wide32 (fault all) in
     let update = g.takes bytes a.value fits a.first in
     let session = g.takes a.value.1 b.value update.takes.rest_fits b.first in
     let write = g.takes b.value.1 c.value session.takes.rest_fits c.first in
@@ -282,7 +286,7 @@ counters_takes all bytes x fits e =
 pub counters_again : (all : ℕ) (c : Counters) (rest : List ℕ) → CountersFit c → counters_at all (counters_text c ++ rest) ≡ Ok (c, rest)
 unfolding counters_at
 counters_again all c rest fits =
-    let g = number_grammar wide32 all in
+    let g = number_grammar wide32 (fault all) in
     let object = to_be_bytes w32 c.next_object ++ rest in
     let write = to_be_bytes w32 c.write_counter ++ object in
     let session = to_be_bytes w32 c.next_session ++ write in

@@ -1,22 +1,22 @@
 -- A state file that is read is spelled so, and what is spelled so is read.
-use Rattle.std.proofs.Common.{◌≡◌, ℕ, ◌^◌, ◌<◌, ◌≤◌, Bool, true, false, cond, eqb, List, [], ◌∷◌, ◌++◌, length, Result, Ok, Err, refl, sym, ap, subst, ◌∙◌, append_assoc, arith}
-use Rattle.std.specs.List.{AllByRecursion}
+use Rattle.std.proofs.Common.{◌≡◌, ℕ, ◌<◌, ◌≤◌, List, [], ◌∷◌, ◌++◌, length, Ok, refl, sym, ap, subst, ◌∙◌, arith, lit<}
 use Rattle.std.proofs.lemmas.Bool.{eqb-true}
 use Rattle.std.proofs.lemmas.List.{append-nil, nil_from_length}
 use Rattle.hash_bank.specs.declared.banks.Banks.{Banks}
+use Rattle.pl_layout.proofs.Steps.{bind_ok, bind_eq, passed, ok_is}
+use Rattle.pl_layout.proofs.Fields.{IsBytes, Takes, Takes-then, byte_takes}
+use Rattle.pl_layout.proofs.Repeats.{ListFits}
 use Rattle.tpm_model.specs.declared.parts.Parts.{Parts}
 use Rattle.tpm_model.specs.Pcrs.{HasValues}
-use Rattle.tpm_state.specs.declared.error.DecodeError.{DecodeError}
 use Rattle.tpm_state.specs.declared.version.Version.{Version}
-use Rattle.tpm_state.specs.Field.{◌>>=◌, fault, byte_at, counted_at, counted_text}
-use Rattle.tpm_state.specs.Header.{magic_text, banks_byte, values_text, counters_text, version_at, banks_of, values_at, counters_at}
-use Rattle.tpm_state.specs.Sessions.{SessionFits, session_text, session_at}
-use Rattle.tpm_state.specs.Indices.{IndexFits, index_text, index_at}
-use Rattle.tpm_state.specs.Objects.{ObjectFits, object_text, object_at}
-use Rattle.tpm_state.specs.Layout.{counters_of, lists_text, body_text, text_of, HasLayout, lists_at, ended, layout_at}
+use Rattle.tpm_state.specs.Field.{fault, counted_text}
+use Rattle.tpm_state.specs.Header.{magic_text, banks_byte, values_text, counters_text, banks_of}
+use Rattle.tpm_state.specs.Sessions.{SessionFits, session_text}
+use Rattle.tpm_state.specs.Indices.{IndexFits, index_text}
+use Rattle.tpm_state.specs.Objects.{ObjectFits, object_text}
+use Rattle.tpm_state.specs.Layout.{counters_of, lists_text, text_of, HasLayout, lists_at, ended, layout_at}
 use Rattle.tpm_state.proofs.Appends.{regroup_four}
-use Rattle.tpm_state.proofs.Fields.{bind_ok, bind_eq, passed, ok_is, IsBytes, Takes, Takes-then, byte_takes}
-use Rattle.tpm_state.proofs.Repeats.{counted_grammar, CountedFits}
+use Rattle.tpm_state.proofs.Counted.{counted_grammar}
 use Rattle.tpm_state.proofs.HeaderLaws.{version_takes, version_again, banks_back, byte_back, values_takes, values_again, CountersFit, counters_takes, counters_again}
 use Rattle.tpm_state.proofs.SessionLaws.{session_grammar}
 use Rattle.tpm_state.proofs.IndexLaws.{index_grammar}
@@ -29,9 +29,9 @@ record ListsTaken (version : Version) (present : Banks) (values : List (List ℕ
   banks : x.0.banks ≡ present
   pcrs : x.0.pcrs ≡ values
   counters : CountersFit (counters_of x.0)
-  sessions : CountedFits 64 (SessionFits version) x.0.sessions
-  indices : CountedFits 16 IndexFits x.0.indices
-  objects : CountedFits 64 (ObjectFits version) x.0.objects
+  sessions : ListFits 0 64 (SessionFits version) x.0.sessions
+  indices : ListFits 0 16 IndexFits x.0.indices
+  objects : ListFits 0 64 (ObjectFits version) x.0.objects
 
 lists_takes : (all : ℕ) (version : Version) (byte : ℕ) (pcrs : List (List ℕ)) (bytes : List ℕ) (x : Parts × List ℕ) → IsBytes bytes → lists_at all version byte pcrs bytes ≡ Ok x → ListsTaken version (banks_of byte) pcrs bytes x
 unfolding lists_at
@@ -41,9 +41,9 @@ lists_takes all version byte pcrs bytes x fits e =
     let c = bind_ok b.second in
     let d = bind_ok c.second in
     let counters = counters_takes all bytes a.value fits a.first in
-    let sessions = (counted_grammar (session_grammar all version) all 64).takes a.value.1 b.value counters.takes.rest_fits b.first in
-    let indices = (counted_grammar (index_grammar all) all 16).takes b.value.1 c.value sessions.takes.rest_fits c.first in
-    let objects = (counted_grammar (object_grammar all version) all 64).takes c.value.1 d.value indices.takes.rest_fits d.first in
+    let sessions = (counted_grammar (session_grammar all version) all 0 64 (lit< tt)).takes a.value.1 b.value counters.takes.rest_fits b.first in
+    let indices = (counted_grammar (index_grammar all) all 0 16 (lit< tt)).takes b.value.1 c.value sessions.takes.rest_fits c.first in
+    let objects = (counted_grammar (object_grammar all version) all 0 64 (lit< tt)).takes c.value.1 d.value indices.takes.rest_fits d.first in
     let made : Parts × List ℕ = (
       record {
         banks = banks_of byte;
@@ -77,9 +77,9 @@ lists_again all version s rest fits =
     let numbers : CountersFit (counters_of s) = record { update_counter = fits.update_counter; next_session = fits.next_session; write_counter = fits.write_counter; next_object = fits.next_object } in
     ap (lists_at all version (banks_byte s.banks) s.pcrs) (regroup_four (counters_text (counters_of s)) (counted_text (session_text version) s.sessions) (counted_text index_text s.indices) (counted_text (object_text version) s.objects) rest)
     ∙ bind_eq _ (counters_of s, sessions) (counters_again all (counters_of s) sessions numbers)
-    (bind_eq _ (s.sessions, indices) ((counted_grammar (session_grammar all version) all 64).again s.sessions indices (fits.session_count, fits.sessions))
-    (bind_eq _ (s.indices, objects) ((counted_grammar (index_grammar all) all 16).again s.indices objects (fits.index_count, fits.indices))
-    (bind_eq _ (s.objects, rest) ((counted_grammar (object_grammar all version) all 64).again s.objects rest (fits.object_count, fits.objects))
+    (bind_eq _ (s.sessions, indices) ((counted_grammar (session_grammar all version) all 0 64 (lit< tt)).again s.sessions indices (omega arith, fits.session_count, fits.sessions))
+    (bind_eq _ (s.indices, objects) ((counted_grammar (index_grammar all) all 0 16 (lit< tt)).again s.indices objects (omega arith, fits.index_count, fits.indices))
+    (bind_eq _ (s.objects, rest) ((counted_grammar (object_grammar all version) all 0 64 (lit< tt)).again s.objects rest (omega arith, fits.object_count, fits.objects))
     (ap (λ (banks : Banks). Ok (record s { banks = banks }, rest)) (banks_back s.banks)))))
 
 -- ---- the whole
@@ -100,7 +100,7 @@ layout_takes bytes x fits e =
     let d = bind_ok c.second in
     let p = passed _ d.second in
     let version = version_takes all bytes a.value fits a.first in
-    let byte = byte_takes all a.value.1 b.value version.rest_fits b.first in
+    let byte = byte_takes (fault all) a.value.1 b.value version.rest_fits b.first in
     let values = values_takes all (banks_of b.value.0) b.value.1 c.value byte.rest_fits c.first in
     let lists = lists_takes all a.value.0 b.value.0 c.value.0 c.value.1 d.value values.takes.rest_fits d.first in
     let s = d.value.0 in
@@ -119,12 +119,12 @@ layout_takes bytes x fits e =
         next_session = lists.counters.next_session;
         write_counter = lists.counters.write_counter;
         next_object = lists.counters.next_object;
-        session_count = lists.sessions.0;
-        sessions = lists.sessions.1;
-        index_count = lists.indices.0;
-        indices = lists.indices.1;
-        object_count = lists.objects.0;
-        objects = lists.objects.1;
+        session_count = lists.sessions.1;
+        sessions = lists.sessions.2;
+        index_count = lists.indices.1;
+        indices = lists.indices.2;
+        object_count = lists.objects.1;
+        objects = lists.objects.2;
       };
     })
 

@@ -1,7 +1,6 @@
 pub mod Loops
 pub mod Appends
-pub mod Fields
-pub mod Repeats
+pub mod Counted
 pub mod HeaderLaws
 pub mod EntryLaws
 pub mod SessionLaws

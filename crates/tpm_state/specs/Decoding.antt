@@ -6,7 +6,7 @@ use Rattle.tpm_model.specs.declared.rules.StateRule.TheVariants as rule
 use Rattle.tpm_model.specs.Rules.{broken_rule}
 use Rattle.tpm_state.specs.declared.error.DecodeError.{DecodeError}
 use Rattle.tpm_state.specs.declared.error.DecodeError.TheVariants.{BadRule}
-use Rattle.tpm_state.specs.Field.{◌>>=◌}
+use Rattle.pl_layout.specs.Reading.{◌>>=◌}
 use Rattle.tpm_state.specs.Layout.{layout_at}
 
 -- the parts, or the rule that they break

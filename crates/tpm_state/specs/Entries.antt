@@ -1,13 +1,14 @@
 -- The entries of a session's trail, as a state file has them.
-use Rattle.std.specs.Prelude.{◌≡◌, ℕ, ◌+◌, ◌*◌, ◌/◌, ◌%◌, ◌^◌, ◌<◌, ◌≤◌, ◌==◌, nat_le, ◌&&◌, if◌then◌else◌, List, [], ◌∷◌, ◌++◌, length, slice_index, Result, Ok, Err, ok_or}
+use Rattle.std.specs.Prelude.{◌≡◌, ℕ, ◌+◌, ◌*◌, ◌/◌, ◌%◌, ◌^◌, ◌<◌, ◌≤◌, ◌==◌, if◌then◌else◌, List, [], ◌∷◌, ◌++◌, length, slice_index, Result, Ok, Err, ok_or}
 use Rattle.std.specs.Int.{w16, w32, to_be_bytes}
 use Rattle.std.specs.List.{flat_map, AllByRecursion}
 use Rattle.hash_bank.specs.declared.bank.Bank.{Bank}
 use Rattle.hash_bank.specs.Hash.{size_in, algorithm_in, bank_of_algorithm}
+use Rattle.pl_layout.specs.Reading.{◌>>=◌, bytes_at, number_at, byte_at}
 use Rattle.tpm_model.specs.declared.trail.TrailEntry.{TrailEntry}
 use Rattle.tpm_model.specs.declared.trail.TrailEntry.TheVariants.{Pcr, Or, AuthorizeNv}
 use Rattle.tpm_state.specs.declared.error.DecodeError.{DecodeError}
-use Rattle.tpm_state.specs.Field.{◌>>=◌, fault, bytes_at, number_at, byte_at, repeat_at, counted_text, digest_text}
+use Rattle.tpm_state.specs.Field.{fault, counted_at, counted_text, digest_text}
 
 -- ---- the text
 
@@ -31,13 +32,13 @@ EntryFits hash (AuthorizeNv name digest written) = (length name ≡ 32) × (leng
 
 unfoldable pub mask_at : ℕ → List ℕ → Result (ℕ × List ℕ) DecodeError
 mask_at all bytes = do
-  mask ← bytes_at all 3 bytes
+  mask ← bytes_at (fault all) 3 bytes
   Ok (slice_index mask.0 0 + 256 * slice_index mask.0 1 + 65536 * slice_index mask.0 2, mask.1)
 
 -- a bank by its algorithm's number
 unfoldable pub bank_number_at : ℕ → List ℕ → Result (Bank × List ℕ) DecodeError
 bank_number_at all bytes = do
-  number ← number_at all w16 bytes
+  number ← number_at (fault all) w16 bytes
   bank ← ok_or (bank_of_algorithm number.0) (fault all bytes)
   Ok (bank, number.1)
 
@@ -45,27 +46,26 @@ unfoldable pub pcr_entry_at : ℕ → Bank → List ℕ → Result (TrailEntry �
 pcr_entry_at all hash bytes = do
   bank ← bank_number_at all bytes
   pcrs ← mask_at all bank.1
-  values ← bytes_at all (size_in hash) pcrs.1
+  values ← bytes_at (fault all) (size_in hash) pcrs.1
   Ok (Pcr bank.0 pcrs.0 values.0, values.1)
 
 -- 2 to 8 digests behind their number
 unfoldable pub or_entry_at : ℕ → Bank → List ℕ → Result (TrailEntry × List ℕ) DecodeError
 or_entry_at all hash bytes = do
-  n ← byte_at all bytes
-  list ← (if nat_le 2 n.0 && nat_le n.0 8 then repeat_at (bytes_at all (size_in hash)) n.0 [] n.1 else Err (fault all bytes))
+  list ← counted_at all 2 8 (bytes_at (fault all) (size_in hash)) bytes
   Ok (Or list.0, list.1)
 
 unfoldable pub nv_entry_at : ℕ → List ℕ → Result (TrailEntry × List ℕ) DecodeError
 nv_entry_at all bytes = do
-  name ← bytes_at all 32 bytes
-  digest ← bytes_at all 32 name.1
-  written ← number_at all w32 digest.1
+  name ← bytes_at (fault all) 32 bytes
+  digest ← bytes_at (fault all) 32 name.1
+  written ← number_at (fault all) w32 digest.1
   Ok (AuthorizeNv name.0 digest.0 written.0, written.1)
 
 -- an entry behind its tag
 unfoldable pub entry_at : ℕ → Bank → List ℕ → Result (TrailEntry × List ℕ) DecodeError
 entry_at all hash bytes = do
-  tag ← byte_at all bytes
+  tag ← byte_at (fault all) bytes
   if tag.0 == 1 then pcr_entry_at all hash tag.1
       else if tag.0 == 2 then or_entry_at all hash tag.1
       else if tag.0 == 3 then nv_entry_at all tag.1

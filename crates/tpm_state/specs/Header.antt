@@ -8,12 +8,13 @@ use Rattle.hash_bank.specs.declared.bank.Bank.{Bank}
 use Rattle.hash_bank.specs.declared.bank.Bank.TheVariants.{Sha1, Sha256, Sha384, Sha512}
 use Rattle.hash_bank.specs.declared.banks.Banks.{Banks}
 use Rattle.hash_bank.specs.Hash.{size_in}
+use Rattle.pl_layout.specs.Reading.{◌>>=◌, bytes_at, number_at, repeat_at}
 use Rattle.tpm_model.specs.declared.parts.Parts.{Parts}
 use Rattle.tpm_state.specs.declared.error.DecodeError.{DecodeError}
 use Rattle.tpm_state.specs.declared.version.Version.{Version}
 use Rattle.tpm_state.specs.declared.version.Version.TheVariants.{One, Two}
 use Rattle.tpm_state.specs.declared.header.Counters.{Counters}
-use Rattle.tpm_state.specs.Field.{◌>>=◌, fault, bytes_at, number_at, repeat_at, digest_text}
+use Rattle.tpm_state.specs.Field.{fault, digest_text}
 
 -- ---- the text
 
@@ -44,7 +45,7 @@ counters_text c =
 -- the version
 unfoldable pub version_at : ℕ → List ℕ → Result (Version × List ℕ) DecodeError
 version_at all bytes = do
-  magic ← bytes_at all 8 bytes
+  magic ← bytes_at (fault all) 8 bytes
   if bytes_eq magic.0 (magic_text Two) then Ok (Two, magic.1)
       else if bytes_eq magic.0 (magic_text One) then Ok (One, magic.1)
       else Err (fault all bytes)
@@ -57,7 +58,7 @@ banks_of byte = record { sha1 = byte % 2 == 1; sha256 = byte / 2 % 2 == 1; sha38
 unfoldable pub bank_at : ℕ → Bool → Bank → List (List ℕ) → List ℕ → Result (List (List ℕ) × List ℕ) DecodeError
 bank_at all present bank before bytes =
     if present then (if nat_lt (length bytes) (24 * size_in bank) then Err (fault all bytes)
-    else repeat_at (bytes_at all (size_in bank)) 24 before bytes)
+    else repeat_at (λ b. bytes_at (fault all) (size_in bank)) 24 before bytes)
     else Ok (before, bytes)
 
 -- the values of all present banks
@@ -71,8 +72,8 @@ values_at all banks bytes = do
 -- the four counters, each a field
 unfoldable pub counters_at : ℕ → List ℕ → Result (Counters × List ℕ) DecodeError
 counters_at all bytes = do
-  update ← number_at all w32 bytes
-  session ← number_at all w32 update.1
-  write ← number_at all w32 session.1
-  object ← number_at all w32 write.1
+  update ← number_at (fault all) w32 bytes
+  session ← number_at (fault all) w32 update.1
+  write ← number_at (fault all) w32 session.1
+  object ← number_at (fault all) w32 write.1
   Ok (record { update_counter = update.0; next_session = session.0; write_counter = write.0; next_object = object.0 }, object.1)

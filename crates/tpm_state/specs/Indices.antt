@@ -4,8 +4,9 @@ use Rattle.std.specs.Int.{w16, w32, to_be_bytes}
 use Rattle.nv_index.specs.declared.index.Index.{Index}
 use Rattle.nv_index.specs.declared.index.Written.{Written}
 use Rattle.nv_index.specs.Table.{has_written}
+use Rattle.pl_layout.specs.Reading.{◌>>=◌, bytes_at, number_at}
 use Rattle.tpm_state.specs.declared.error.DecodeError.{DecodeError}
-use Rattle.tpm_state.specs.Field.{◌>>=◌, bytes_at, number_at}
+use Rattle.tpm_state.specs.Field.{fault}
 
 -- ---- the text
 
@@ -35,17 +36,17 @@ pub record IndexFits (index : Index) : Type 0 where
 
 unfoldable pub written_at : ℕ → Bool → List ℕ → Result (Option Written × List ℕ) DecodeError
 written_at all true bytes = do
-  number ← number_at all w32 bytes
-  value ← bytes_at all 34 number.1
+  number ← number_at (fault all) w32 bytes
+  value ← bytes_at (fault all) 34 number.1
   Ok (Some (record { number = number.0; value = value.0 }), value.1)
 written_at all false bytes = Ok (None, bytes)
 
 unfoldable pub index_at : ℕ → List ℕ → Result (Index × List ℕ) DecodeError
 index_at all bytes = do
-  handle ← number_at all w32 bytes
-  attributes ← number_at all w32 handle.1
-  policy ← bytes_at all 32 attributes.1
-  size ← number_at all w16 policy.1
+  handle ← number_at (fault all) w32 bytes
+  attributes ← number_at (fault all) w32 handle.1
+  policy ← bytes_at (fault all) 32 attributes.1
+  size ← number_at (fault all) w16 policy.1
   written ← written_at all (has_written attributes.0) size.1
   Ok (
     record {

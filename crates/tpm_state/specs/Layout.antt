@@ -2,6 +2,7 @@
 use Rattle.std.specs.Prelude.{◌≡◌, ℕ, ◌^◌, ◌<◌, ◌≤◌, ◌==◌, if◌then◌else◌, List, [], ◌∷◌, ◌++◌, length, Result, Ok, Err}
 use Rattle.std.specs.List.{AllByRecursion}
 use Rattle.nv_index.specs.declared.index.Index.{Index}
+use Rattle.pl_layout.specs.Reading.{◌>>=◌, byte_at}
 use Rattle.tpm_model.specs.declared.object.Object.{Object}
 use Rattle.tpm_model.specs.declared.parts.Parts.{Parts}
 use Rattle.tpm_model.specs.declared.sessions.Session.{Session}
@@ -9,7 +10,7 @@ use Rattle.tpm_model.specs.Pcrs.{HasValues}
 use Rattle.tpm_state.specs.declared.error.DecodeError.{DecodeError}
 use Rattle.tpm_state.specs.declared.version.Version.{Version}
 use Rattle.tpm_state.specs.declared.header.Counters.{Counters}
-use Rattle.tpm_state.specs.Field.{◌>>=◌, fault, byte_at, counted_at, counted_text}
+use Rattle.tpm_state.specs.Field.{fault, counted_at, counted_text}
 use Rattle.tpm_state.specs.Header.{magic_text, banks_byte, values_text, counters_text, version_at, banks_of, values_at, counters_at}
 use Rattle.tpm_state.specs.Sessions.{SessionFits, session_text, session_at}
 use Rattle.tpm_state.specs.Indices.{IndexFits, index_text, index_at}
@@ -55,9 +56,9 @@ pub record HasLayout (version : Version) (s : Parts) : Type 0 where
 unfoldable pub lists_at : ℕ → Version → ℕ → List (List ℕ) → List ℕ → Result (Parts × List ℕ) DecodeError
 lists_at all version byte pcrs bytes = do
   counters ← counters_at all bytes
-  sessions ← counted_at all 64 (session_at all version) counters.1
-  indices ← counted_at all 16 (index_at all) sessions.1
-  objects ← counted_at all 64 (object_at all version) indices.1
+  sessions ← counted_at all 0 64 (session_at all version) counters.1
+  indices ← counted_at all 0 16 (index_at all) sessions.1
+  objects ← counted_at all 0 64 (object_at all version) indices.1
   Ok (
     record {
       banks = banks_of byte;
@@ -81,7 +82,7 @@ ended all x bytes = if length bytes == 0 then Ok x else Err (fault all bytes)
 unfoldable pub layout_at : List ℕ → Result (ℕ × Parts) DecodeError
 layout_at bytes = do
   version ← version_at (length bytes) bytes
-  banks ← byte_at (length bytes) version.1
+  banks ← byte_at (fault (length bytes)) version.1
   values ← values_at (length bytes) (banks_of banks.0) banks.1
   parts ← lists_at (length bytes) version.0 banks.0 values.0 values.1
   ended (length bytes) (banks.0, parts.0) parts.1

@@ -5,12 +5,13 @@ use Rattle.std.specs.List.{flat_map, AllByRecursion}
 use Rattle.hash_bank.specs.declared.bank.Bank.{Bank}
 use Rattle.hash_bank.specs.declared.bank.Bank.TheVariants.{Sha256, Sha384}
 use Rattle.hash_bank.specs.Hash.{size_in, algorithm_in}
+use Rattle.pl_layout.specs.Reading.{◌>>=◌, bytes_at, number_at, byte_at}
 use Rattle.policy_digest.specs.Policies.{IsPolicyHash}
 use Rattle.tpm_model.specs.declared.sessions.Session.{Session}
 use Rattle.tpm_state.specs.declared.error.DecodeError.{DecodeError}
 use Rattle.tpm_state.specs.declared.version.Version.{Version}
 use Rattle.tpm_state.specs.declared.version.Version.TheVariants.{One, Two}
-use Rattle.tpm_state.specs.Field.{◌>>=◌, fault, bytes_at, number_at, byte_at, counted_at, counted_text}
+use Rattle.tpm_state.specs.Field.{fault, counted_at, counted_text}
 use Rattle.tpm_state.specs.Entries.{EntryFits, entry_text, entry_at}
 
 -- ---- the text
@@ -52,28 +53,28 @@ pub record SessionFits (version : Version) (session : Session) : Type 0 where
 unfoldable pub hash_at : ℕ → Version → List ℕ → Result (Bank × List ℕ) DecodeError
 hash_at all One bytes = Ok (Sha256, bytes)
 hash_at all Two bytes = do
-  number ← number_at all w16 bytes
+  number ← number_at (fault all) w16 bytes
   if number.0 == 0x000B then Ok (Sha256, number.1)
       else if number.0 == 0x000C then Ok (Sha384, number.1)
       else Err (fault all bytes)
 
 unfoldable pub noted_number_at : ℕ → List ℕ → Result (Option ℕ × List ℕ) DecodeError
 noted_number_at all bytes = do
-  noted ← number_at all w32 bytes
+  noted ← number_at (fault all) w32 bytes
   Ok (Some noted.0, noted.1)
 
 unfoldable pub noted_at : ℕ → List ℕ → Result (Option ℕ × List ℕ) DecodeError
 noted_at all bytes = do
-  flag ← byte_at all bytes
+  flag ← byte_at (fault all) bytes
   if flag.0 == 0 then Ok (None, flag.1)
       else if flag.0 == 1 then noted_number_at all flag.1
       else Err (fault all bytes)
 
 unfoldable pub session_at : ℕ → Version → List ℕ → Result (Session × List ℕ) DecodeError
 session_at all version bytes = do
-  handle ← number_at all w32 bytes
+  handle ← number_at (fault all) w32 bytes
   hash ← hash_at all version handle.1
-  digest ← bytes_at all (size_in hash.0) hash.1
+  digest ← bytes_at (fault all) (size_in hash.0) hash.1
   noted ← noted_at all digest.1
-  trail ← counted_at all 128 (entry_at all hash.0) noted.1
+  trail ← counted_at all 0 128 (entry_at all hash.0) noted.1
   Ok (record { hash = hash.0; handle = handle.0; digest = digest.0; noted = noted.0; trail = trail.0 }, trail.1)

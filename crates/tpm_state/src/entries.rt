@@ -1,15 +1,17 @@
 //! The entries of a session's trail.
 ghost use Rattle.std.specs.Prelude.{◌≡◌, ◌<◌, ◌≤◌, ◌^◌, ◌∷◌, [], ◌++◌, length, OnOk, IfOk};
-ghost use Rattle.tpm_state.specs.Field.{Gives, repeat_at, counted_at, counted_text, digest_text};
+ghost use Rattle.hash_bank.specs.Hash.{size_in};
+ghost use Rattle.pl_layout.specs.Reading.{bytes_at, repeat_at};
+ghost use Rattle.tpm_state.specs.Field.{Gives, fault, counted_at, counted_text, digest_text};
 ghost use Rattle.tpm_state.specs.Entries.{mask_text, entry_text, mask_at, bank_number_at, pcr_entry_at, or_entry_at, nv_entry_at, entry_at};
 
 use crate::DecodeError;
-use crate::field::{
-    digest_of, fault_at, put_digests, put_u16, put_u32, read_bank_bytes, read_bytes, read_digests,
-    read_u8, read_u16, read_u32,
-};
+use crate::field::{fault_at, put_digests, read_digests};
 use hash_bank::{Bank, Digest};
 use pl_base::Memory;
+use pl_layout::{
+    digest_of, put_u16, put_u32, read_bank_bytes, read_bytes, read_u8, read_u16, read_u32,
+};
 use policy_digest::Group;
 use std::alloc::Global;
 use tpm_model::{Trail, TrailEntry};
@@ -25,7 +27,7 @@ const BRANCHES: u8 = 8;
 fn read_mask(all: usize, bytes: &[u8]) -> Result<(u32, &[u8]), DecodeError>
     ensures { Gives (λ x. (x.0, x.1.now)) result (mask_at all bytes.now) }
 {
-    let (mask, rest) = read_bytes(all, 3, bytes)?;
+    let (mask, rest) = read_bytes::<DecodeError>(all, 3, bytes)?;
     let pcrs = u32::from(mask[0]) + 256 * u32::from(mask[1]) + 65536 * u32::from(mask[2]);
     Ok((pcrs, rest))
 }
@@ -35,7 +37,7 @@ fn read_mask(all: usize, bytes: &[u8]) -> Result<(u32, &[u8]), DecodeError>
 fn read_bank_number(all: usize, bytes: &[u8]) -> Result<(Bank, &[u8]), DecodeError>
     ensures { Gives (λ x. (x.0, x.1.now)) result (bank_number_at all bytes.now) }
 {
-    let (number, rest) = read_u16(all, bytes)?;
+    let (number, rest) = read_u16::<DecodeError>(all, bytes)?;
     match Bank::from_algorithm(number) {
         Some(bank) => Ok((bank, rest)),
         None => Err(fault_at(all, bytes)),
@@ -49,9 +51,28 @@ fn read_pcr_entry(all: usize, hash: Bank, bytes: &[u8]) -> Result<(TrailEntry, &
 {
     let (bank, rest) = read_bank_number(all, bytes)?;
     let (pcrs, rest) = read_mask(all, rest)?;
-    let (values, rest) = read_bank_bytes(all, hash, rest)?;
+    let (values, rest) = read_bank_bytes::<DecodeError>(all, hash, rest)?;
     let values = digest_of(values);
     Ok((TrailEntry::Pcr { bank, pcrs, values }, rest))
+}
+
+/// The digests of a PolicyOR behind their number.
+#[tactic(auto, unfolding(pl_layout::specs::Reading::counted_at))]
+fn read_list(
+    alloc: Global,
+    all: usize,
+    hash: Bank,
+    bytes: &[u8],
+) -> Result<(Vec<Digest>, &[u8]), DecodeError>
+    ensures exact { Gives (λ x. (x.0.items, x.1.now)) result (counted_at all 2 8 (bytes_at (fault all) (size_in hash)) bytes.now) }
+    ensures some { IfOk result (λ x. 2 ≤ length x.0.items) }
+    ensures few { IfOk result (λ x. length x.0.items ≤ 8) }
+{
+    let (count, rest) = read_u8::<DecodeError>(all, bytes)?;
+    if count < 2 || BRANCHES < count {
+        return Err(fault_at(all, bytes));
+    }
+    read_digests(all, hash, count, Vec::new(alloc), rest)
 }
 
 /// What follows the tag of a PolicyOR.
@@ -64,11 +85,7 @@ fn read_or_entry(
 ) -> Result<(TrailEntry, &[u8]), DecodeError>
     ensures { Gives (λ x. (x.0, x.1.now)) result (or_entry_at all hash bytes.now) }
 {
-    let (count, rest) = read_u8(all, bytes)?;
-    if count < 2 || BRANCHES < count {
-        return Err(fault_at(all, bytes));
-    }
-    let (digests, rest) = read_digests(all, hash, count, Vec::new(alloc), rest)?;
+    let (digests, rest) = read_list(alloc, all, hash, bytes)?;
     let Some(list) = Group::from_slice(&digests) else {
         unreachable!()
     };
@@ -80,9 +97,9 @@ fn read_or_entry(
 fn read_nv_entry(all: usize, bytes: &[u8]) -> Result<(TrailEntry, &[u8]), DecodeError>
     ensures { Gives (λ x. (x.0, x.1.now)) result (nv_entry_at all bytes.now) }
 {
-    let (name, rest) = read_bytes(all, 32, bytes)?;
-    let (digest, rest) = read_bytes(all, 32, rest)?;
-    let (written, rest) = read_u32(all, rest)?;
+    let (name, rest) = read_bytes::<DecodeError>(all, 32, bytes)?;
+    let (digest, rest) = read_bytes::<DecodeError>(all, 32, rest)?;
+    let (written, rest) = read_u32::<DecodeError>(all, rest)?;
     let entry = TrailEntry::AuthorizeNv {
         name: digest_of(name),
         digest: digest_of(digest),
@@ -101,7 +118,7 @@ fn read_entry(
 ) -> Result<(TrailEntry, &[u8]), DecodeError>
     ensures { Gives (λ x. (x.0, x.1.now)) result (entry_at all hash bytes.now) }
 {
-    let (tag, rest) = read_u8(all, bytes)?;
+    let (tag, rest) = read_u8::<DecodeError>(all, bytes)?;
     match tag {
         1 => read_pcr_entry(all, hash, rest),
         2 => read_or_entry(alloc, all, hash, rest),
@@ -119,7 +136,7 @@ fn read_entries(
     bytes: &[u8],
 ) -> Result<(Trail, &[u8]), DecodeError>
     requires { count ≤ 128 }
-    ensures { Gives (λ x. (x.0, x.1.now)) result (repeat_at (entry_at all hash) count [] bytes.now) }
+    ensures { Gives (λ x. (x.0, x.1.now)) result (repeat_at (λ before. entry_at all hash) count [] bytes.now) }
 {
     let mut trail = Trail::new(alloc)?;
     let mut rest = bytes;
@@ -136,16 +153,16 @@ fn read_entries(
 }
 
 /// The trail of a session of the hash.
-#[tactic(auto, unfolding(crate::specs::Field::counted_at))]
+#[tactic(auto, unfolding(pl_layout::specs::Reading::counted_at))]
 pub(crate) fn read_trail(
     alloc: Global,
     all: usize,
     hash: Bank,
     bytes: &[u8],
 ) -> Result<(Trail, &[u8]), DecodeError>
-    ensures { Gives (λ x. (x.0, x.1.now)) result (counted_at all 128 (entry_at all hash) bytes.now) }
+    ensures { Gives (λ x. (x.0, x.1.now)) result (counted_at all 0 128 (entry_at all hash) bytes.now) }
 {
-    let (count, rest) = read_u8(all, bytes)?;
+    let (count, rest) = read_u8::<DecodeError>(all, bytes)?;
     if ENTRIES < count {
         return Err(fault_at(all, bytes));
     }

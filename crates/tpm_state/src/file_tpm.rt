@@ -1,5 +1,5 @@
 //! A TPM that is kept in a file.
-ghost use Rattle.std.specs.Prelude.{◌≡◌, ◌≢◌, ◌⊎◌, ◌≤◌, ◌↔◌, ℕ, Bool, true, false, Option, None, Some, is_some, is_ok, Ok, Err, IfOk, IfErr, length, MatchOption};
+ghost use Rattle.std.specs.Prelude.{◌≡◌, ◌≢◌, ◌⊎◌, ◌≤◌, ◌↔◌, ℕ, Bool, true, false, Option, None, Some, is_some, is_ok, Ok, Err, IfOk, IfErr, IfSome, OnErr, length, MatchOption};
 ghost use Rattle.std.specs.FinMap.{get, insert};
 ghost use Rattle.pl_base.specs.Faults.{HasCause};
 ghost use Rattle.pl_base.specs.FileAnswers.{ReplaceLeaves};
@@ -18,7 +18,7 @@ ghost use Rattle.tpm_state.specs.Spelling.{IsSpelled};
 ghost use Rattle.tpm_state.specs.Storing.{all_banks, most_bytes, stored_as, stored_by, stored_in, StateGives, StoreLeaves, StoresText};
 
 use crate::kept::Kept;
-use crate::{DecodeError, decode};
+use crate::{DecodeError, decode, encode};
 use hash_bank::Banks;
 use pl_base::{Files, Memory, Name, ReadError, ReplaceError};
 use std::alloc::Global;
@@ -34,17 +34,20 @@ pub struct FileTpm<F: Files> {
     files: F,
     path: Name,
     live: Option<Kept>,
+    // room for the next state
+    spare: Option<Box<State>>,
 }
 
 impl<F: Files> FileTpm<F> {
     /// The TPM that is kept at the path. It isn't ready yet, and nothing is read.
     pub fn new(files: F, path: Name) -> FileTpm<F>
-        ensures { result ≡ record { files = files; path = path; live = None } }
+        ensures { result ≡ record { files = files; path = path; live = None; spare = None } }
     {
         FileTpm {
             files,
             path,
             live: None,
+            spare: None,
         }
     }
 
@@ -118,29 +121,101 @@ fn stored_state<F: Files>(files: &mut F, alloc: Global, path: &str) -> Result<Ke
     }
 }
 
-/// One step on a copy of a state: the answer and the next state, beside its text.
-fn next_state(alloc: Global, live: &State, command: &Command) -> Result<(Response, Kept), Memory>
-    ensures value { IfOk result (λ next. next ≡ respond command.now live.now) }
-    ensures fitting { IfOk result (λ next. fits command.now next.0 ≡ true) }
-    ensures rules { IfOk result (λ next. HasRules next.1) }
+/// Another place with an equal state.
+fn copied(alloc: Global, live: &State) -> Result<Box<State>, Memory>
+    ensures { IfOk result (λ next. next.value ≡ live.now) }
 {
-    let mut next = live.copy(alloc)?;
-    let response = step(alloc, &mut next, command)?;
-    Ok((response, Kept::new(alloc, next)?))
+    let state = live.copy(alloc)?;
+    Ok(Box::new(alloc, state)?)
 }
 
-/// Stores a state at the path.
+/// Makes the spare state equal to the live one. Where there is none yet, it is made.
+fn fill(alloc: Global, spare: &mut Option<Box<State>>, live: &State) -> Result<(), Memory>
+    ensures { IfOk result (λ _. IfSome spare.new (λ next. next.value ≡ live.now) × (is_some spare.new ≡ true)) }
+{
+    match spare {
+        Some(next) => next.copy_from(alloc, live),
+        None => match copied(alloc, live) {
+            Ok(next) => {
+                *spare = Some(next);
+                Ok(())
+            }
+            Err(_) => Err(Memory),
+        },
+    }
+}
+
+/// One step on a state that is equal to the live one: the answer and the text of the next state.
+fn stepped(
+    alloc: Global,
+    next: &mut State,
+    command: &Command,
+) -> Result<(Response, Vec<u8>), Memory>
+    ensures value { IfOk result (λ done. (done.0, next.new) ≡ respond command.now next.old) }
+    ensures fitting { IfOk result (λ done. fits command.now done.0 ≡ true) }
+    ensures text { IfOk result (λ done. done.1.items ≡ text_of Two next.new) }
+    ensures stored { IfOk result (λ done. stored_by (Some done.1.items) ≡ Holds next.new) }
+    ensures rules { HasRules next.old × HasRules next.new }
+{
+    match step(alloc, next, command) {
+        Ok(response) => match encode(alloc, next) {
+            Ok(text) => Ok((response, text)),
+            Err(_) => Err(Memory),
+        },
+        Err(_) => Err(Memory),
+    }
+}
+
+/// Stores the text of a state at the path.
 fn store<F: Files>(
     files: &mut F,
     alloc: Global,
     path: &str,
-    next: &Kept,
+    next: &State,
+    text: &[u8],
 ) -> Result<(), ReplaceError>
+    requires text { text.now ≡ text_of Two next.now }
+    requires stored { stored_by (Some text.now) ≡ Holds next.now }
     ensures cause { HasCause (F.faults files.old) (F.faults files.new) (result ≡ Err ReplaceError.Failed) }
     ensures stored { (kept : Stored) → stored_in (F.held files.old) path.now ≡ Some kept → StoreLeaves kept (Holds next.now) result (stored_in (F.held files.new) path.now) }
     ensures files { (map : FileMap) → F.held files.old ≡ Some map → ReplaceLeaves map (insert map path.now (text_of Two next.now)) result (F.held files.new) }
 {
-    files.replace(alloc, path, next.text())
+    files.replace(alloc, path, text)
+}
+
+/// One step on a spare state that is equal to the live one. Where it leads to another state, that is stored at the path,
+/// and the live one takes it over.
+fn advance<F: Files>(
+    files: &mut F,
+    alloc: Global,
+    path: &str,
+    live: &mut Kept,
+    next: &mut Box<State>,
+    command: &Command,
+) -> Result<Response, ExecError>
+    requires { next.old.value ≡ live.old }
+    ensures cause { HasCause (F.faults files.old) (F.faults files.new) (result ≡ Err ExecError.Failed) }
+    ensures value { IfOk result (λ answer. (answer, live.new) ≡ respond command.now live.old) }
+    ensures fitting { IfOk result (λ answer. fits command.now answer ≡ true) }
+    ensures err { OnErr result (live.new ≡ live.old) }
+    ensures stored { stored_in (F.held files.old) path.now ≡ Some (Holds live.old) → ExecuteStores command.now live.old result (stored_in (F.held files.new) path.now) }
+    ensures quiet { (respond command.now live.old).1 ≡ live.old → F.held files.new ≡ F.held files.old }
+    ensures files { (map : FileMap) → F.held files.old ≡ Some map → StoresText map path.now live.old (respond command.now live.old).1 result (F.held files.new) }
+{
+    let Ok((response, text)) = stepped(alloc, next, command) else {
+        return Err(ExecError::Memory);
+    };
+    if live.is_same(next, text.as_slice()) {
+        return Ok(response);
+    }
+    match store(files, alloc, path, next, text.as_slice()) {
+        Ok(()) => {
+            live.take_over(next, text);
+            Ok(response)
+        }
+        Err(ReplaceError::Failed) => Err(ExecError::Failed),
+        Err(ReplaceError::Memory) => Err(ExecError::Memory),
+    }
 }
 
 /// Whether a command only looks at the state.
@@ -196,25 +271,32 @@ impl<F: Files> FileTpm<F> {
         ensures files { (s : Parts) (map : FileMap) → self.old.live ≡ Some s → F.held self.old.files ≡ Some map → StoresText map self.old.path s (respond command.now s).1 result (F.held self.new.files) }
         ensures path { self.new.path ≡ self.old.path }
     {
-        let Some(live) = &self.live else {
+        let Some(live) = &mut self.live else {
             unreachable!()
         };
-        let Ok((response, next)) = next_state(alloc, live.state(), command) else {
+        let Ok(()) = fill(alloc, &mut self.spare, live.state()) else {
             return Err(ExecError::Memory);
         };
-        if live.is_same(&next) {
-            return Ok(response);
-        }
-        match store(&mut self.files, alloc, self.path.text(), &next) {
-            Ok(()) => {
-                self.live = Some(next);
+        let Some(next) = &mut self.spare else {
+            unreachable!()
+        };
+        match advance(
+            &mut self.files,
+            alloc,
+            self.path.text(),
+            live,
+            next,
+            command,
+        ) {
+            Ok(response) => {
+                let _state = live.state(); // tells that the state has its rules
                 Ok(response)
             }
-            Err(ReplaceError::Failed) => {
+            Err(ExecError::Failed) => {
                 self.live = None;
                 Err(ExecError::Failed)
             }
-            Err(ReplaceError::Memory) => Err(ExecError::Memory),
+            Err(ExecError::Memory) => Err(ExecError::Memory),
         }
     }
 }

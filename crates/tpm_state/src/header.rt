@@ -4,10 +4,11 @@ ghost use Rattle.tpm_state.specs.Field.{Gives};
 ghost use Rattle.tpm_state.specs.Header.{magic_text, banks_byte, counters_text, version_at, banks_of, bank_at, values_at, counters_at};
 
 use crate::DecodeError;
-use crate::field::{fault_at, put_u32, read_bytes, read_digests, read_u32};
+use crate::field::{fault_at, read_digests};
 use crate::version::Version;
 use hash_bank::{Bank, Banks, Digest};
 use pl_base::Memory;
+use pl_layout::{put_u32, read_bytes, read_u32};
 use std::alloc::Global;
 
 /// `PLTPM`, and version 1 in three bytes.
@@ -37,7 +38,7 @@ pub struct Counters {
 pub(crate) fn read_version(all: usize, bytes: &[u8]) -> Result<(Version, &[u8]), DecodeError>
     ensures { Gives (λ x. (x.0, x.1.now)) result (version_at all bytes.now) }
 {
-    let (magic, rest) = read_bytes(all, 8, bytes)?;
+    let (magic, rest) = read_bytes::<DecodeError>(all, 8, bytes)?;
     if magic == MAGIC_TWO.as_slice() {
         Ok((Version::Two, rest))
     } else if magic == MAGIC_ONE.as_slice() {
@@ -101,10 +102,10 @@ pub(crate) fn read_values(
 pub(crate) fn read_counters(all: usize, bytes: &[u8]) -> Result<(Counters, &[u8]), DecodeError>
     ensures { Gives (λ x. (x.0, x.1.now)) result (counters_at all bytes.now) }
 {
-    let (update_counter, rest) = read_u32(all, bytes)?;
-    let (next_session, rest) = read_u32(all, rest)?;
-    let (write_counter, rest) = read_u32(all, rest)?;
-    let (next_object, rest) = read_u32(all, rest)?;
+    let (update_counter, rest) = read_u32::<DecodeError>(all, bytes)?;
+    let (next_session, rest) = read_u32::<DecodeError>(all, rest)?;
+    let (write_counter, rest) = read_u32::<DecodeError>(all, rest)?;
+    let (next_object, rest) = read_u32::<DecodeError>(all, rest)?;
     let counters = Counters {
         update_counter,
         next_session,

@@ -2,15 +2,15 @@
 ghost use Rattle.std.specs.Prelude.{◌≡◌, ◌<◌, ◌≤◌, ◌^◌, ◌∷◌, [], ◌++◌, length, Option, OnOk, IfOk};
 ghost use Rattle.std.specs.List.{flat_map};
 ghost use Rattle.nv_index.specs.Table.{has_written as is_set};
-ghost use Rattle.tpm_state.specs.Field.{Gives, repeat_at, counted_at, counted_text};
+ghost use Rattle.pl_layout.specs.Reading.{repeat_at};
+ghost use Rattle.tpm_state.specs.Field.{Gives, counted_at, counted_text};
 ghost use Rattle.tpm_state.specs.Indices.{written_text, index_text, written_at, index_at};
 
 use crate::DecodeError;
-use crate::field::{
-    digest_of, fault_at, put_u16, put_u32, read_bytes, read_u8, read_u16, read_u32,
-};
+use crate::field::fault_at;
 use nv_index::{CONTENT_SIZE, Index, NvPublic, Written};
 use pl_base::{Memory, Small};
+use pl_layout::{digest_of, put_u16, put_u32, read_bytes, read_u8, read_u16, read_u32};
 use std::alloc::Global;
 
 /// The most indices.
@@ -38,8 +38,8 @@ fn read_written(
     if !is_written {
         return Ok((None, bytes));
     }
-    let (number, rest) = read_u32(all, bytes)?;
-    let (value, rest) = read_bytes(all, usize::from(CONTENT_SIZE), rest)?;
+    let (number, rest) = read_u32::<DecodeError>(all, bytes)?;
+    let (value, rest) = read_bytes::<DecodeError>(all, usize::from(CONTENT_SIZE), rest)?;
     let Some(value) = Small::from_slice(value) else {
         unreachable!()
     };
@@ -50,10 +50,10 @@ fn read_written(
 fn read_index(all: usize, bytes: &[u8]) -> Result<(Index, &[u8]), DecodeError>
     ensures { Gives (λ x. (x.0, x.1.now)) result (index_at all bytes.now) }
 {
-    let (handle, rest) = read_u32(all, bytes)?;
-    let (attributes, rest) = read_u32(all, rest)?;
-    let (policy, rest) = read_bytes(all, 32, rest)?;
-    let (size, rest) = read_u16(all, rest)?;
+    let (handle, rest) = read_u32::<DecodeError>(all, bytes)?;
+    let (attributes, rest) = read_u32::<DecodeError>(all, rest)?;
+    let (policy, rest) = read_bytes::<DecodeError>(all, 32, rest)?;
+    let (size, rest) = read_u16::<DecodeError>(all, rest)?;
     let public = NvPublic {
         handle,
         attributes,
@@ -73,7 +73,7 @@ fn read_some(
     count: u8,
     bytes: &[u8],
 ) -> Result<(Vec<Index>, &[u8]), DecodeError>
-    ensures { Gives (λ x. (x.0.items, x.1.now)) result (repeat_at (index_at all) count [] bytes.now) }
+    ensures { Gives (λ x. (x.0.items, x.1.now)) result (repeat_at (λ before. index_at all) count [] bytes.now) }
 {
     let mut indices = Vec::new(alloc);
     let mut rest = bytes;
@@ -90,15 +90,15 @@ fn read_some(
 }
 
 /// The indices behind their number.
-#[tactic(auto, unfolding(crate::specs::Field::counted_at))]
+#[tactic(auto, unfolding(pl_layout::specs::Reading::counted_at))]
 pub(crate) fn read_indices(
     alloc: Global,
     all: usize,
     bytes: &[u8],
 ) -> Result<(Vec<Index>, &[u8]), DecodeError>
-    ensures { Gives (λ x. (x.0.items, x.1.now)) result (counted_at all 16 (index_at all) bytes.now) }
+    ensures { Gives (λ x. (x.0.items, x.1.now)) result (counted_at all 0 16 (index_at all) bytes.now) }
 {
-    let (count, rest) = read_u8(all, bytes)?;
+    let (count, rest) = read_u8::<DecodeError>(all, bytes)?;
     if INDICES < count {
         return Err(fault_at(all, bytes));
     }

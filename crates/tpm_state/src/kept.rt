@@ -16,12 +16,14 @@ use crate::encode;
 use pl_base::Memory;
 use std::alloc::Global;
 use std::marker::Model;
+use std::mem;
 use tpm_model::{Command, Response, State, step};
 
-/// A state, and its text in version 2 of the layout. Contracts see the state's parts.
+/// A state, and its text in version 2 of the layout. Contracts see the state's parts. The state has some 7,000 bytes,
+/// so it stands behind a pointer and isn't moved.
 #[derive(Debug, Drop)]
 pub(crate) struct Kept {
-    state: State,
+    state: Box<State>,
     text: Vec<u8>,
 }
 
@@ -37,9 +39,9 @@ impl Model for Kept {
 
     ghost Value = { Parts };
 
-    ghost view = { λ kept. kept.state };
+    ghost view = { λ kept. kept.state.value };
 
-    ghost invariant = { λ kept. (kept.text.items ≡ text_of Two kept.state) × (stored_by (Some kept.text.items) ≡ Holds kept.state) × HasRules kept.state };
+    ghost invariant = { λ kept. (kept.text.items ≡ text_of Two kept.state.value) × (stored_by (Some kept.text.items) ≡ Holds kept.state.value) × HasRules kept.state.value };
 }
 
 // Whether a state file's bytes are of version 2 of the layout, by the last byte of the magic.
@@ -56,6 +58,7 @@ impl Kept {
     {
         let text = encode(alloc, &state)?;
         let _values = state.pcrs(); // tells that the state has its rules
+        let state = Box::new(alloc, state)?;
         Ok(Kept { state, text })
     }
 
@@ -68,6 +71,7 @@ impl Kept {
     {
         let _values = state.pcrs(); // tells that the state has its rules
         if is_of_version_two(bytes.as_slice()) {
+            let state = Box::new(alloc, state)?;
             Ok(Kept { state, text: bytes })
         } else {
             Kept::new(alloc, state)
@@ -101,10 +105,23 @@ impl Kept {
         step(alloc, &mut self.state, command)
     }
 
-    /// Whether both are the same state, which is so exactly where they have one text.
-    pub(crate) fn is_same(&self, other: &Kept) -> bool
-        ensures { result ≡ true ↔ (self.now ≡ other.now) }
+    /// Whether a state of this text is the same, which is so exactly where both have one text.
+    pub(crate) fn is_same(&self, next: &State, text: &[u8]) -> bool
+        requires text { text.now ≡ text_of Two next.now }
+        requires stored { stored_by (Some text.now) ≡ Holds next.now }
+        ensures { result ≡ true ↔ (self.now ≡ next.now) }
     {
-        self.text() == other.text()
+        self.text() == text
+    }
+
+    /// Takes the next state, with its text, and gives its own state for it.
+    pub(crate) fn take_over(&mut self, next: &mut Box<State>, text: Vec<u8>)
+        requires text { text.items ≡ text_of Two next.old.value }
+        requires stored { stored_by (Some text.items) ≡ Holds next.old.value }
+        ensures { self.new ≡ next.old.value }
+    {
+        let _values = next.pcrs(); // tells that the state has its rules
+        mem::swap(&mut self.state, next);
+        self.text = text;
     }
 }

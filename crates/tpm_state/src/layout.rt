@@ -4,7 +4,7 @@ ghost use Rattle.tpm_state.specs.Field.{Gives};
 ghost use Rattle.tpm_state.specs.Layout.{lists_text, lists_at, layout_at};
 
 use crate::DecodeError;
-use crate::field::{fault_at, read_u8};
+use crate::field::fault_at;
 use crate::header::{read_banks, read_counters, read_values, read_version};
 use crate::indices::{put_indices, read_indices};
 use crate::objects::{put_objects, read_objects};
@@ -13,6 +13,7 @@ use crate::version::Version;
 use hash_bank::Digest;
 use nv_index::Index;
 use pl_base::{List, Memory};
+use pl_layout::read_u8;
 use std::alloc::Global;
 use tpm_model::{Object, Parts, Session};
 
@@ -53,7 +54,7 @@ pub(crate) fn read_layout(alloc: Global, bytes: &[u8]) -> Result<(u8, Parts), De
 {
     let all = bytes.len();
     let (version, rest) = read_version(all, bytes)?;
-    let (byte, rest) = read_u8(all, rest)?;
+    let (byte, rest) = read_u8::<DecodeError>(all, rest)?;
     let (values, rest) = read_values(alloc, all, read_banks(byte), rest)?;
     let (parts, rest) = read_lists(alloc, all, version, byte, values, rest)?;
     if rest.is_empty() {

@@ -1,15 +1,15 @@
 //! Sealed objects.
 ghost use Rattle.std.specs.Prelude.{◌≡◌, ◌<◌, ◌≤◌, ◌^◌, ◌∷◌, [], ◌++◌, length, Option, OnOk, IfOk};
 ghost use Rattle.std.specs.List.{flat_map};
-ghost use Rattle.tpm_state.specs.Field.{Gives, repeat_at, counted_at, counted_text};
+ghost use Rattle.pl_layout.specs.Reading.{repeat_at};
+ghost use Rattle.tpm_state.specs.Field.{Gives, counted_at, counted_text};
 ghost use Rattle.tpm_state.specs.Objects.{size_text, secret_text, object_text, size_at, secret_at, object_at};
 
 use crate::DecodeError;
-use crate::field::{
-    digest_of, fault_at, put_u16, put_u32, read_bytes, read_u8, read_u16, read_u32,
-};
+use crate::field::fault_at;
 use crate::version::Version;
 use pl_base::{Memory, Small};
+use pl_layout::{digest_of, put_u16, put_u32, read_bytes, read_u8, read_u16, read_u32};
 use std::alloc::Global;
 use tpm_model::Object;
 
@@ -29,7 +29,7 @@ fn read_size(all: usize, version: Version, bytes: &[u8]) -> Result<(u16, &[u8]),
     match version {
         Version::One => Ok((32, bytes)),
         Version::Two => {
-            let (size, rest) = read_u16(all, bytes)?;
+            let (size, rest) = read_u16::<DecodeError>(all, bytes)?;
             if size == 32 || size == 48 {
                 Ok((size, rest))
             } else {
@@ -45,7 +45,7 @@ fn read_secret(all: usize, bytes: &[u8]) -> Result<(&[u8], &[u8]), DecodeError>
     ensures exact { Gives (λ x. (x.0.now, x.1.now)) result (secret_at all bytes.now) }
     ensures most { IfOk result (λ x. length x.0.now ≤ 128) }
 {
-    let (len, rest) = read_u8(all, bytes)?;
+    let (len, rest) = read_u8::<DecodeError>(all, bytes)?;
     if SECRET < len {
         return Err(fault_at(all, bytes));
     }
@@ -56,9 +56,9 @@ fn read_secret(all: usize, bytes: &[u8]) -> Result<(&[u8], &[u8]), DecodeError>
 fn read_object(all: usize, version: Version, bytes: &[u8]) -> Result<(Object, &[u8]), DecodeError>
     ensures { Gives (λ x. (x.0, x.1.now)) result (object_at all version bytes.now) }
 {
-    let (handle, rest) = read_u32(all, bytes)?;
+    let (handle, rest) = read_u32::<DecodeError>(all, bytes)?;
     let (size, rest) = read_size(all, version, rest)?;
-    let (policy, rest) = read_bytes(all, usize::from(size), rest)?;
+    let (policy, rest) = read_bytes::<DecodeError>(all, usize::from(size), rest)?;
     let (secret, rest) = read_secret(all, rest)?;
     let Some(secret) = Small::from_slice(secret) else {
         unreachable!()
@@ -79,7 +79,7 @@ fn read_some(
     count: u8,
     bytes: &[u8],
 ) -> Result<(Vec<Object>, &[u8]), DecodeError>
-    ensures { Gives (λ x. (x.0.items, x.1.now)) result (repeat_at (object_at all version) count [] bytes.now) }
+    ensures { Gives (λ x. (x.0.items, x.1.now)) result (repeat_at (λ before. object_at all version) count [] bytes.now) }
 {
     let mut objects = Vec::new(alloc);
     let mut rest = bytes;
@@ -96,16 +96,16 @@ fn read_some(
 }
 
 /// The objects behind their number.
-#[tactic(auto, unfolding(crate::specs::Field::counted_at))]
+#[tactic(auto, unfolding(pl_layout::specs::Reading::counted_at))]
 pub(crate) fn read_objects(
     alloc: Global,
     all: usize,
     version: Version,
     bytes: &[u8],
 ) -> Result<(Vec<Object>, &[u8]), DecodeError>
-    ensures { Gives (λ x. (x.0.items, x.1.now)) result (counted_at all 64 (object_at all version) bytes.now) }
+    ensures { Gives (λ x. (x.0.items, x.1.now)) result (counted_at all 0 64 (object_at all version) bytes.now) }
 {
-    let (count, rest) = read_u8(all, bytes)?;
+    let (count, rest) = read_u8::<DecodeError>(all, bytes)?;
     if OBJECTS < count {
         return Err(fault_at(all, bytes));
     }

@@ -1,17 +1,17 @@
 //! Sessions.
 ghost use Rattle.std.specs.Prelude.{◌≡◌, ◌<◌, ◌≤◌, ◌^◌, ◌∷◌, [], ◌++◌, length, Option, OnOk, IfOk};
 ghost use Rattle.std.specs.List.{flat_map};
-ghost use Rattle.tpm_state.specs.Field.{Gives, repeat_at, counted_at, counted_text};
+ghost use Rattle.pl_layout.specs.Reading.{repeat_at};
+ghost use Rattle.tpm_state.specs.Field.{Gives, counted_at, counted_text};
 ghost use Rattle.tpm_state.specs.Sessions.{hash_text, noted_text, session_text, hash_at, noted_number_at, noted_at, session_at};
 
 use crate::DecodeError;
 use crate::entries::{put_trail, read_trail};
-use crate::field::{
-    digest_of, fault_at, put_u16, put_u32, read_bank_bytes, read_u8, read_u16, read_u32,
-};
+use crate::field::fault_at;
 use crate::version::Version;
 use hash_bank::Bank;
 use pl_base::Memory;
+use pl_layout::{digest_of, put_u16, put_u32, read_bank_bytes, read_u8, read_u16, read_u32};
 use std::alloc::Global;
 use tpm_model::Session;
 
@@ -26,7 +26,7 @@ fn read_hash(all: usize, version: Version, bytes: &[u8]) -> Result<(Bank, &[u8])
     match version {
         Version::One => Ok((Bank::Sha256, bytes)),
         Version::Two => {
-            let (number, rest) = read_u16(all, bytes)?;
+            let (number, rest) = read_u16::<DecodeError>(all, bytes)?;
             match number {
                 0x000B => Ok((Bank::Sha256, rest)),
                 0x000C => Ok((Bank::Sha384, rest)),
@@ -41,7 +41,7 @@ fn read_hash(all: usize, version: Version, bytes: &[u8]) -> Result<(Bank, &[u8])
 fn read_noted_number(all: usize, bytes: &[u8]) -> Result<(Option<u32>, &[u8]), DecodeError>
     ensures { Gives (λ x. (x.0, x.1.now)) result (noted_number_at all bytes.now) }
 {
-    let (noted, rest) = read_u32(all, bytes)?;
+    let (noted, rest) = read_u32::<DecodeError>(all, bytes)?;
     Ok((Some(noted), rest))
 }
 
@@ -50,7 +50,7 @@ fn read_noted_number(all: usize, bytes: &[u8]) -> Result<(Option<u32>, &[u8]), D
 fn read_noted(all: usize, bytes: &[u8]) -> Result<(Option<u32>, &[u8]), DecodeError>
     ensures { Gives (λ x. (x.0, x.1.now)) result (noted_at all bytes.now) }
 {
-    let (flag, rest) = read_u8(all, bytes)?;
+    let (flag, rest) = read_u8::<DecodeError>(all, bytes)?;
     match flag {
         0 => Ok((None, rest)),
         1 => read_noted_number(all, rest),
@@ -67,9 +67,9 @@ fn read_session(
 ) -> Result<(Session, &[u8]), DecodeError>
     ensures { Gives (λ x. (x.0, x.1.now)) result (session_at all version bytes.now) }
 {
-    let (handle, rest) = read_u32(all, bytes)?;
+    let (handle, rest) = read_u32::<DecodeError>(all, bytes)?;
     let (hash, rest) = read_hash(all, version, rest)?;
-    let (digest, rest) = read_bank_bytes(all, hash, rest)?;
+    let (digest, rest) = read_bank_bytes::<DecodeError>(all, hash, rest)?;
     let (noted, rest) = read_noted(all, rest)?;
     match read_trail(alloc, all, hash, rest) {
         Ok((trail, rest)) => {
@@ -94,7 +94,7 @@ fn read_some(
     count: u8,
     bytes: &[u8],
 ) -> Result<(Vec<Session>, &[u8]), DecodeError>
-    ensures { Gives (λ x. (x.0.items, x.1.now)) result (repeat_at (session_at all version) count [] bytes.now) }
+    ensures { Gives (λ x. (x.0.items, x.1.now)) result (repeat_at (λ before. session_at all version) count [] bytes.now) }
 {
     let mut sessions = Vec::new(alloc);
     let mut rest = bytes;
@@ -111,16 +111,16 @@ fn read_some(
 }
 
 /// The sessions behind their number.
-#[tactic(auto, unfolding(crate::specs::Field::counted_at))]
+#[tactic(auto, unfolding(pl_layout::specs::Reading::counted_at))]
 pub(crate) fn read_sessions(
     alloc: Global,
     all: usize,
     version: Version,
     bytes: &[u8],
 ) -> Result<(Vec<Session>, &[u8]), DecodeError>
-    ensures { Gives (λ x. (x.0.items, x.1.now)) result (counted_at all 64 (session_at all version) bytes.now) }
+    ensures { Gives (λ x. (x.0.items, x.1.now)) result (counted_at all 0 64 (session_at all version) bytes.now) }
 {
-    let (count, rest) = read_u8(all, bytes)?;
+    let (count, rest) = read_u8::<DecodeError>(all, bytes)?;
     if SESSIONS < count {
         return Err(fault_at(all, bytes));
     }

@@ -1,16 +1,17 @@
 use Rattle.std.proofs.Common.{[]}
-use Rattle.tpm_state.specs.Field.{repeat_at}
+use Rattle.pl_layout.specs.Reading.{repeat_at}
+use Rattle.pl_layout.proofs.Loops.{go_on, finish}
 use Rattle.tpm_state.specs.Objects.{object_at}
-use Rattle.tpm_state.proofs.Loops.{go_on, end, finish}
+use Rattle.tpm_state.proofs.Loops.{end}
 use Rattle.tpm_state.proofs.objects.read_some.Goals as goal
 
 pub returns-in-Err : goal.returns-in-Err
 returns-in-Err c =
-    end c.in-Err.error (object_at c.args.all c.args.version) c.args.count c.loop.counter c.loop.objects.items c.loop.rest.now (repeat_at (object_at c.args.all c.args.version) c.args.count [] c.args.bytes.now) c.loop-test.true c.loop.invariant c.in-Err.ensures
+    end c.in-Err.error (λ before. object_at c.args.all c.args.version) c.args.count c.loop.counter c.loop.objects.items c.loop.rest.now (repeat_at (λ before. object_at c.args.all c.args.version) c.args.count [] c.args.bytes.now) c.loop-test.true c.loop.invariant c.in-Err.ensures
 
 pub loop-preserved : goal.loop-preserved
 loop-preserved c =
-    rw c.in_ok-push-in-Ok.ensures.items (go_on (object_at c.args.all c.args.version) c.args.count c.loop.counter c.loop.objects.items c.loop.rest.now c.in-Ok.object c.in-Ok.after.now (repeat_at (object_at c.args.all c.args.version) c.args.count [] c.args.bytes.now) c.loop-test.true c.loop.invariant c.in-Ok.ensures)
+    rw c.in_ok-push-in-Ok.ensures.items (go_on (λ before. object_at c.args.all c.args.version) c.args.count c.loop.counter c.loop.objects.items c.loop.rest.now c.in-Ok.object c.in-Ok.after.now (repeat_at (λ before. object_at c.args.all c.args.version) c.args.count [] c.args.bytes.now) c.loop-test.true c.loop.invariant c.in-Ok.ensures)
 
 pub returns : goal.returns
-returns c = finish (object_at c.args.all c.args.version) c.args.count c.loop.counter c.loop.objects.items c.loop.rest.now (repeat_at (object_at c.args.all c.args.version) c.args.count [] c.args.bytes.now) c.loop-test.false c.loop.invariant
+returns c = finish (λ before. object_at c.args.all c.args.version) c.args.count c.loop.counter c.loop.objects.items c.loop.rest.now (repeat_at (λ before. object_at c.args.all c.args.version) c.args.count [] c.args.bytes.now) c.loop-test.false c.loop.invariant

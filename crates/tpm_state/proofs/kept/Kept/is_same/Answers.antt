@@ -12,7 +12,7 @@ held a b e = cc
 
 pub returns : goal.returns
 returns c =
-    let decides = bytes_eq-Decides c.text.result.now c.text-2.result.now in (
-      λ yes. held _ _ (sym c.text.ensures.stored ∙ ap (λ (b : List ℕ). stored_by (Some b)) (decides.0 (sym c.eq.ensures ∙ yes)) ∙ c.text-2.ensures.stored),
-      λ same. c.eq.ensures ∙ decides.1 (c.text.ensures.value ∙ ap (text_of Two) same ∙ sym c.text-2.ensures.value),
+    let decides = bytes_eq-Decides c.text.result.now c.args.text.now in (
+      λ yes. held _ _ (sym c.text.ensures.stored ∙ ap (λ (b : List ℕ). stored_by (Some b)) (decides.0 (sym c.eq.ensures ∙ yes)) ∙ c.requires.stored),
+      λ same. c.eq.ensures ∙ decides.1 (c.text.ensures.value ∙ ap (text_of Two) same ∙ sym c.requires.text),
     )

@@ -10,9 +10,10 @@ use Rattle.tpm_state.proofs.kept.Kept.look.Goals as goal
 
 pub invariant_of-self : goal.invariant_of-self
 invariant_of-self c =
-    let same : c.step.new.state ≡ c.self.inside.state = look_same c.args.command.now c.self.inside.state c.step.new.state c.step.result c.requires c.step.ensures.ok c.step.ensures.err in
+    let same : c.step.new.state ≡ c.self.inside.state.value =
+    look_same c.args.command.now c.deref_mut.result.now c.step.new.state c.step.result c.requires c.step.ensures.ok c.step.ensures.err ∙ c.deref_mut.ensures.value in
     subst (λ (s : Parts). (c.self.inside.text.items ≡ text_of Two s) × (stored_by (Some c.self.inside.text.items) ≡ Holds s) × HasRules s) (sym same) c.self.invariant
 
 pub returns-clause-same : goal.returns-clause-same
 returns-clause-same c =
-    look_same c.args.command.now c.self.inside.state c.step.new.state c.step.result c.requires c.step.ensures.ok c.step.ensures.err ∙ c.self.view_is
+    look_same c.args.command.now c.deref_mut.result.now c.step.new.state c.step.result c.requires c.step.ensures.ok c.step.ensures.err ∙ c.deref_mut.ensures.value ∙ c.self.view_is
