@@ -15,24 +15,27 @@ use Rattle.hash_bank.specs.declared.bank.Bank.{Bank}
 use Rattle.hash_bank.proofs.Sizes.{length-digest_in, length-start_of}
 use Rattle.cel_record.specs.Listed.{listed_in}
 use Rattle.cel_record.specs.Spelled.{Spelled}
-use Rattle.component_tree.specs.declared.tree.Component.{Component}
-use Rattle.component_tree.specs.PlainTree.{PlainVariant, PlainComponent, plain}
+use Rattle.component_tree.specs.PlainTree.{PlainVariant, PlainComponent}
 use Rattle.pcr_replay.specs.Measured.{extended_by}
 use Rattle.policy_digest.specs.Mask.{has_pcr, pcrs_of}
+use Rattle.policy_digest.specs.Table.{values_eq}
 use Rattle.policy_digest.proofs.Masks.{pcrs_from, from_first, from_next}
 use Rattle.record_match.specs.Choices.{choices, chosen}
 use Rattle.record_match.specs.Extends.{extends_of, variants_of, reached_by}
 use Rattle.record_match.specs.Lacking.{at_or, first_giving, lacks as lacks_one, lacking_in, lacking_among, lacking_of, place_at}
+use Rattle.predictor.specs.declared.reached.Reached.{Reached}
 use Rattle.predictor.specs.declared.window.Window.{Window}
 use Rattle.predictor.specs.Cuts.{inside_of, cuts_between}
 use Rattle.predictor.specs.Distinct.{put, put_all}
-use Rattle.predictor.specs.Foreseen.{first_cut, last_cut, lacking_in_any, over_cuts}
+use Rattle.predictor.specs.Foreseen.{first_cut, last_cut, lacking_in_any}
+use Rattle.predictor.specs.Reaching.{all_reached, first_reached, reached_at, reached_with}
+use Rattle.predictor.specs.Reaching.{same_values as same_reached}
 use Rattle.predictor.specs.Spread.{IsState}
-use Rattle.predictor.proofs.Insides.{plain_count}
-use Rattle.predictor.proofs.Repeats.{All-put}
+use Rattle.predictor.proofs.Firsts.{firsts_kept}
+use Rattle.predictor.proofs.Repeats.{values_tell, put_viewed, All-put}
 use Rattle.predict_proof.specs.declared.proof.Proof.{Proof}
 use Rattle.predict_proof.specs.Proved.{HasShape, Proved, lacks, some_lacks}
-use Rattle.predict_proof.specs.Proving.{proof_of_choice, proofs_at, same_values, first_proofs}
+use Rattle.predict_proof.specs.Proving.{all_proofs, first_proofs, proof_of, same_values, IsFirstOf}
 use Rattle.predict_proof.proofs.Members.{first_in, later_in, first_or_later}
 
 -- ---- no record lacks the bank
@@ -181,13 +184,18 @@ module _ (bank : Bank) (locality mask : ℕ) (window : Window) (tree : List Plai
   abbrev cuts : List ℕ
   cuts = cuts_between (first_cut window tree) (last_cut window tree)
 
-  over_all : (P : Proof → Type 0) → ((k : ℕ) (c : List ℕ) → Contains cuts k → Contains (choices (variants_of (take k inside))) c → P (proof_of_choice bank locality mask (pcrs_of mask) k (take k inside) c)) → All P (first_proofs bank locality mask window tree)
+  abbrev state : ℕ → List ℕ → Reached
+  state k choice = reached_with bank locality (pcrs_of mask) k (take k inside) choice
+
+  over_all : (P : Proof → Type 0) → ((k : ℕ) (c : List ℕ) → Contains cuts k → Contains (choices (variants_of (take k inside))) c → P (proof_of mask (state k c))) → All P (first_proofs bank locality mask window tree)
   over_all P each =
-      all_put P same_values [] (flat_map (λ k. proofs_at bank locality mask (pcrs_of mask) k (take k inside)) cuts) (All-nil P)
-      (all_joined P (Contains cuts) (λ k. proofs_at bank locality mask (pcrs_of mask) k (take k inside))
-      (λ k has. All-map P (proof_of_choice bank locality mask (pcrs_of mask) k (take k inside)) (choices (variants_of (take k inside)))
-      (All-weaker (Contains (choices (variants_of (take k inside)))) (λ c. P (proof_of_choice bank locality mask (pcrs_of mask) k (take k inside) c)) (λ c chosen. each k c has chosen) (choices (variants_of (take k inside))) (All-contains_itself (choices (variants_of (take k inside))))))
-      cuts (All-contains_itself cuts))
+      let Q : Reached → Type 0 = λ s. P (proof_of mask s) in
+      All-map P (proof_of mask) (first_reached bank locality (pcrs_of mask) window tree)
+      (all_put Q same_reached [] (flat_map (λ k. reached_at bank locality (pcrs_of mask) k (take k inside)) cuts) (All-nil Q)
+      (all_joined Q (Contains cuts) (λ k. reached_at bank locality (pcrs_of mask) k (take k inside))
+      (λ k has. All-map Q (state k) (choices (variants_of (take k inside)))
+      (All-weaker (Contains (choices (variants_of (take k inside)))) (λ c. Q (state k c)) (λ c chosen. each k c has chosen) (choices (variants_of (take k inside))) (All-contains_itself (choices (variants_of (take k inside))))))
+      cuts (All-contains_itself cuts)))
 
   pub first_proved : mask < 2 ^ 24 → lacking_in_any bank (pcrs_of mask) inside ≡ None → All (Proved bank locality window tree) (first_proofs bank locality mask window tree)
   first_proved small none = over_all (Proved bank locality window tree) (λ k c has chosen. record { cut = has; choice = chosen; digests = none_lacks bank mask inside k c small none; values = refl })
@@ -198,12 +206,8 @@ module _ (bank : Bank) (locality mask : ℕ) (window : Window) (tree : List Plai
   pub first_of_mask : All (λ q. q.pcrs ≡ mask) (first_proofs bank locality mask window tree)
   first_of_mask = over_all (λ q. q.pcrs ≡ mask) (λ k c has chosen. refl)
 
-  -- the proofs over the cuts, as the code counts them
-  pub are_first : (components : List Component) (first : ℕ) (pcrs : List ℕ) (list : List Proof) → plain components ≡ inside → first ≡ first_cut window tree → pcrs ≡ pcrs_of mask
-      → list ≡ over_cuts same_values (λ k. proofs_at bank locality mask pcrs k (take k (plain components))) (cuts_between first (length components)) → list ≡ first_proofs bank locality mask window tree
-  are_first components first pcrs list is from listed h =
-      h
-      ∙ ap (λ ps. over_cuts same_values (λ k. proofs_at bank locality mask ps k (take k (plain components))) (cuts_between first (length components))) listed
-      ∙ ap (λ n. over_cuts same_values (λ k. proofs_at bank locality mask (pcrs_of mask) k (take k (plain components))) (cuts_between first n)) (sym (plain_count components))
-      ∙ ap (λ cs. over_cuts same_values (λ k. proofs_at bank locality mask (pcrs_of mask) k (take k cs)) (cuts_between first (length cs))) is
-      ∙ ap (λ n. over_cuts same_values (λ k. proofs_at bank locality mask (pcrs_of mask) k (take k inside)) (cuts_between n (length inside))) from
+  pub first_of_all : All (IsFirstOf (all_proofs bank locality mask window tree)) (first_proofs bank locality mask window tree)
+  first_of_all =
+      let all = all_reached bank locality (pcrs_of mask) window tree in
+      subst (All (IsFirstOf (all_proofs bank locality mask window tree))) (put_viewed same_reached same_values (proof_of mask) (λ a b. refl) [] all)
+      (firsts_kept (λ (q : Proof). q.values) values_eq values_tell (all_proofs bank locality mask window tree))

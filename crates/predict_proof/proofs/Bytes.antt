@@ -8,7 +8,7 @@ use Rattle.std.proofs.lemmas.Fmt.{decimal_by_steps}
 use Rattle.std.proofs.lemmas.List.Elements.{All-nil, All-cons, All-head, All-tail, All-append, All-weaker}
 use Rattle.std.proofs.lemmas.List.Splits.{slice_split_none, slice_split_at}
 use Rattle.hex.specs.Hex.{IsBytes, encode_lower, encode_with, lower_digits}
-use Rattle.tpm_commands.specs.Parts.{parts_of}
+use Rattle.pl_text.specs.Parts.{parts_of}
 
 -- each byte is at least n
 abbrev pub From : ℕ → List ℕ → Type 0

@@ -12,11 +12,6 @@ pub mod MaskTexts
 pub mod LineTexts
 pub mod FileLemmas
 pub mod ProofsRead
-pub mod Firsts
-pub mod Growths
-pub mod OverCuts
-pub mod NextLemmas
-pub mod SpreadLemmas
 pub mod AllProved
 pub mod Lines
 pub mod Sizes

@@ -14,9 +14,9 @@ use Rattle.hash_bank.specs.declared.bank.Bank.{Bank}
 use Rattle.hash_bank.specs.declared.bank.Bank.TheVariants.{Sha1, Sha256, Sha384, Sha512}
 use Rattle.hash_bank.specs.Hash.{name_in}
 use Rattle.policy_digest.specs.Mask.{pcrs_of}
-use Rattle.tpm_commands.specs.Parts.{parts_of, four_of}
-use Rattle.tpm_commands.specs.Values.{◌>>=◌, number_up_to, bank_of}
-use Rattle.predictor.proofs.MaskLists.{some_listed}
+use Rattle.pl_text.specs.Parts.{parts_of, four_of}
+use Rattle.pl_text.specs.Words.{◌>>=◌, number_up_to, bank_of}
+use Rattle.policy_digest.proofs.MaskLists.{some_listed}
 use Rattle.predictor.proofs.Repeats.{bytes_tell}
 use Rattle.predict_proof.specs.declared.proof.Proof.{Proof}
 use Rattle.predict_proof.specs.ProofText.{numbers_text, choice_text, values_text, proof_text, head_text}

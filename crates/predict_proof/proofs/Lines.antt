@@ -1,6 +1,5 @@
 -- A proof of what is foreseen is within the bounds of a line of a proof file.
-use Rattle.std.proofs.Common.{◌≡◌, ℕ, zero, suc, ◌+◌, ◌-◌, ◌<◌, ◌≤◌, true, false, cond, ◌&&◌, eqb, leb, List, [], ◌∷◌, ◌++◌, length, map, take, replicate, Result, Ok, Err, sym, ap, ◌∙◌, subst, arith}
-use Rattle.std.specs.Prelude.{IfOk}
+use Rattle.std.proofs.Common.{◌≡◌, ℕ, zero, suc, ◌+◌, ◌-◌, ◌<◌, ◌≤◌, true, false, cond, ◌&&◌, eqb, leb, List, [], ◌∷◌, ◌++◌, length, map, take, replicate, sym, ap, ◌∙◌, subst, arith}
 use Rattle.std.specs.List.{All, AllByRecursion, Contains, flat_map, range_with_len}
 use Rattle.std.proofs.lemmas.List.{length-map, take-map}
 use Rattle.std.proofs.lemmas.List.Elements.{All-contains, All-from_recursion, All-head, All-tail}
@@ -9,17 +8,17 @@ use Rattle.hash_bank.specs.declared.bank.Bank.{Bank}
 use Rattle.hash_bank.specs.Hash.{size_in, zeros_in}
 use Rattle.hash_bank.specs.Extending.{start_of, extended}
 use Rattle.hash_bank.proofs.Bytes.{IsBytes-digest_in, IsBytes-zeros_in}
+use Rattle.component_tree.specs.Ascending.{ascend}
 use Rattle.component_tree.specs.declared.tree.Component.{Component}
 use Rattle.component_tree.specs.PlainTree.{PlainComponent, plain, plain_component, plain_variant}
 use Rattle.pcr_replay.specs.Measured.{extended_by}
 use Rattle.policy_digest.specs.Mask.{pcrs_of}
 use Rattle.record_match.specs.Choices.{choices}
 use Rattle.record_match.specs.Extends.{variants_of, extends_of, reached_by}
-use Rattle.predictor.specs.declared.error.ForeseeError.{ForeseeError}
 use Rattle.predictor.specs.declared.window.Window.{Window}
 use Rattle.predictor.specs.Cuts.{inside_of, cuts_between}
 use Rattle.predictor.specs.Foreseen.{first_cut}
-use Rattle.predictor.proofs.Insides.{plain_count}
+use Rattle.predictor.proofs.Insides.{few_inside, first_inside, plain_count}
 use Rattle.predict_proof.specs.declared.proof.Proof.{Proof}
 use Rattle.predict_proof.specs.Proved.{HasShape, Proved, held_by}
 use Rattle.predict_proof.specs.ReadsAs.{IsLine}
@@ -112,21 +111,29 @@ few_variants (c ∷ components) =
 
 -- ---- a line
 
-module _ (bank : Bank) (locality : ℕ) (window : Window) (tree : List PlainComponent) (inside : List Component) (is : plain inside ≡ inside_of window.end tree) (few : length inside ≤ 256) (small : locality < 256) where
+module _ (bank : Bank) (locality : ℕ) (window : Window) (components : List Component) (up : ascend (map (λ c. c.id) components) ≡ true) (few : length components ≤ 256) (small : locality < 256) where
+  abbrev tree : List PlainComponent
+  tree = plain components
+
+  abbrev inside : List Component
+  inside = take (length (inside_of window.end tree)) components
+
+  abbrev before : List PlainComponent
+  before = inside_of window.end tree
+
   proof_line : (q : Proof) → HasShape bank q → Proved bank locality window tree q → IsLine bank q
   proof_line q shape p =
-      let components = inside_of window.end tree in
-      let before : plain (take q.cut inside) ≡ take q.cut components = sym (take-map plain_component q.cut inside) ∙ ap (take q.cut) is in
-      let last = cut_least (first_cut window tree) (length components) q.cut p.cut in
-      let values : AllByRecursion IsBytes (map (held_by bank locality components q) (pcrs_of q.pcrs)) =
-      each_map IsBytes (held_by bank locality components q) (pcrs_of q.pcrs) (each_is (λ pcr. IsBytes (held_by bank locality components q pcr)) (λ pcr. reached_bytes bank locality pcr (take q.cut components) q.choice small) (pcrs_of q.pcrs)) in
+      let first : plain (take q.cut inside) ≡ take q.cut before = sym (take-map plain_component q.cut inside) ∙ ap (take q.cut) (first_inside window.end components up) in
+      let last = cut_least (first_cut window tree) (length before) q.cut p.cut in
+      let values : AllByRecursion IsBytes (map (held_by bank locality before q) (pcrs_of q.pcrs)) =
+      each_map IsBytes (held_by bank locality before q) (pcrs_of q.pcrs) (each_is (λ pcr. IsBytes (held_by bank locality before q pcr)) (λ pcr. reached_bytes bank locality pcr (take q.cut before) q.choice small) (pcrs_of q.pcrs)) in
       let choice : AreSmall q.choice =
-      All-contains AreSmall (choices (variants_of (take q.cut components))) q.choice
-      (All-from_recursion AreSmall (choices (variants_of (take q.cut components))) (small_choices (take q.cut components) (subst (AllByRecursion (λ c. length c.variants ≤ 64)) before (few_variants (take q.cut inside))))) p.choice in
+      All-contains AreSmall (choices (variants_of (take q.cut before))) q.choice
+      (All-from_recursion AreSmall (choices (variants_of (take q.cut before))) (small_choices (take q.cut before) (subst (AllByRecursion (λ c. length c.variants ≤ 64)) first (few_variants (take q.cut inside))))) p.choice in
       record {
         shape = shape;
         bytes = All-from_recursion IsBytes q.values (subst (AllByRecursion IsBytes) (sym p.values) values);
-        cut = omega (arith, ap length is, plain_count inside);
+        cut = omega (arith, last, few, few_inside window.end tree, plain_count components);
         choice = All-from_recursion (λ v. v ≤ 63) q.choice choice;
       }
 
@@ -137,9 +144,5 @@ module _ (bank : Bank) (locality : ℕ) (window : Window) (tree : List PlainComp
     each_line list (All-tail (HasShape bank) q list shaped) (All-tail (Proved bank locality window tree) q list proved),
   )
 
-  all_lines : (list : List Proof) → All (HasShape bank) list → All (Proved bank locality window tree) list → All (IsLine bank) list
+  pub all_lines : (list : List Proof) → All (HasShape bank) list → All (Proved bank locality window tree) list → All (IsLine bank) list
   all_lines list shaped proved = All-from_recursion (IsLine bank) list (each_line list shaped proved)
-
-  pub result_lines : (result : Result (List Proof) ForeseeError) → IfOk result (All (HasShape bank)) → IfOk result (All (Proved bank locality window tree)) → IfOk result (All (IsLine bank))
-  result_lines (Ok list) shaped proved = all_lines list shaped proved
-  result_lines (Err e) shaped proved = tt

@@ -12,7 +12,7 @@ use Rattle.std.proofs.lemmas.Nat.Bits.{bit_at_or, bit_at-pow_same, bit_at-pow_ot
 use Rattle.std.proofs.lemmas.List.Elements.{All-nil, All-cons}
 use Rattle.policy_digest.specs.Mask.{has_pcr, pcrs_of}
 use Rattle.policy_digest.proofs.Masks.{pcrs_from, from_first, from_next}
-use Rattle.tpm_commands.specs.Values.{◌>>=◌, number_up_to}
+use Rattle.pl_text.specs.Words.{◌>>=◌, number_up_to}
 use Rattle.predict_proof.specs.Words.{mask_with, mask_from}
 use Rattle.predict_proof.proofs.NumberTexts.{both_gave, then_gives, gave_if, gives_if, number_back, number_read}
 

@@ -16,9 +16,9 @@ use Rattle.hex.specs.declared.error.FromHexError.{FromHexError}
 use Rattle.hex.proofs.HexLemmas.{decode_sized-encode_lower, decode_sized-ok, decode_sized-twice, decode_of-ok}
 use Rattle.hash_bank.specs.declared.bank.Bank.{Bank}
 use Rattle.hash_bank.specs.Hash.{size_in}
-use Rattle.tpm_commands.specs.Parts.{parts_of}
-use Rattle.tpm_commands.specs.Values.{◌>>=◌, number_up_to, bytes_of}
-use Rattle.tpm_commands.proofs.Splits.{has_first}
+use Rattle.pl_text.specs.Parts.{parts_of}
+use Rattle.pl_text.specs.Words.{◌>>=◌, number_up_to, bytes_of}
+use Rattle.pl_text.proofs.Splits.{has_first}
 use Rattle.predictor.proofs.Repeats.{bytes_tell}
 use Rattle.predict_proof.specs.ProofText.{numbers_text, choice_text}
 use Rattle.predict_proof.specs.Words.{numbers_from, choice_of, digest_of, values_from}

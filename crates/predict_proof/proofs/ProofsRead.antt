@@ -5,8 +5,8 @@ use Rattle.std.proofs.lemmas.Bool.{eq-eqb, ne_eqb, eqb-true}
 use Rattle.std.proofs.lemmas.List.Elements.{All-head, All-tail}
 use Rattle.std.proofs.lemmas.List.Splits.{join_with_byte-slice_split}
 use Rattle.hash_bank.specs.declared.bank.Bank.{Bank}
-use Rattle.tpm_commands.specs.Parts.{parts_of}
-use Rattle.tpm_commands.proofs.Splits.{has_first}
+use Rattle.pl_text.specs.Parts.{parts_of}
+use Rattle.pl_text.proofs.Splits.{has_first}
 use Rattle.predict_proof.specs.declared.proof.Proof.{Proof}
 use Rattle.predict_proof.specs.declared.file.ProofFile.{ProofFile}
 use Rattle.predict_proof.specs.declared.error.ProofError.{ProofError}

@@ -22,7 +22,7 @@ use Rattle.predict_proof.specs.Proved.{Proved}
 use Rattle.predict_proof.specs.ProofText.{choice_text, head_text, line, numbers_text, proof_text, proofs_text, values_text}
 use Rattle.predict_proof.specs.ReadsAs.{IsLine}
 use Rattle.predict_proof.specs.Words.{is_locality}
-use Rattle.predict_proof.proofs.Growths.{long_choices}
+use Rattle.predictor.proofs.Growth.{long_choices}
 use Rattle.predict_proof.proofs.LineTexts.{locality_within}
 use Rattle.predict_proof.proofs.MaskTexts.{pcrs_within}
 

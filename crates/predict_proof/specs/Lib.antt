@@ -6,5 +6,4 @@ pub mod ReadsAs
 pub mod Chosen
 pub mod Fault
 pub mod Words
-pub mod NextProofs
 pub mod ProofsIn

@@ -1,7 +1,7 @@
 -- The file that a text spells, or the first line that is bad.
 use Rattle.std.specs.Prelude.{◌≡◌, ℕ, ◌+◌, ◌==◌, List, [], ◌∷◌, length, Option, Some, None, Result, Ok, Err, if◌then◌else◌}
 use Rattle.hash_bank.specs.declared.bank.Bank.{Bank}
-use Rattle.tpm_commands.specs.Parts.{parts_of}
+use Rattle.pl_text.specs.Parts.{parts_of}
 use Rattle.predict_proof.specs.declared.proof.Proof.{Proof}
 use Rattle.predict_proof.specs.declared.file.ProofFile.{ProofFile}
 use Rattle.predict_proof.specs.declared.error.ProofError.{ProofError}

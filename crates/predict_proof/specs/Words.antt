@@ -5,8 +5,8 @@ use Rattle.hex.specs.Hex.{encode_lower}
 use Rattle.hash_bank.specs.declared.bank.Bank.{Bank}
 use Rattle.hash_bank.specs.Hash.{size_in}
 use Rattle.policy_digest.specs.Mask.{pcrs_of}
-use Rattle.tpm_commands.specs.Parts.{parts_of, four_of}
-use Rattle.tpm_commands.specs.Values.{◌>>=◌, number_up_to, bank_of, bytes_of}
+use Rattle.pl_text.specs.Parts.{parts_of, four_of}
+use Rattle.pl_text.specs.Words.{◌>>=◌, number_up_to, bank_of, bytes_of}
 use Rattle.predict_proof.specs.declared.proof.Proof.{Proof}
 
 -- the localities that a platform starts at

@@ -1,11 +1,9 @@
 //! The check of a list of proofs.
 ghost use Rattle.std.specs.Prelude.{◌≡◌, ◌≤◌, ◌↔◌, length, IsOk, IfErr, OnOk};
 ghost use Rattle.std.specs.List.{All};
-ghost use Rattle.std.specs.Str.{bytes_eq};
 ghost use Rattle.component_tree.specs.PlainTree.{plain};
 ghost use Rattle.policy_digest.specs.Mask.{pcrs_of};
 ghost use Rattle.record_match.specs.Extends.{reached_by};
-ghost use Rattle.predictor.specs.Cuts.{inside_of};
 ghost use Rattle.predict_proof.specs.Proved.{HasShape, Proved, FailsFirst};
 ghost use Rattle.predict_proof.specs.Joint.{IsForeseen};
 ghost use Rattle.predict_proof.specs.Fault.{differing, fault_of, first_differing, first_fault, unless};
@@ -15,19 +13,11 @@ use crate::proof::Proof;
 use crate::reaching::{is_choice, lacks_some, reached};
 use component_tree::{Component, Tree};
 use hash_bank::{Bank, Digest};
-use pl_base::Name;
 use policy_digest::is_in_mask;
-use predictor::{Window, inside};
+use predictor::{Window, components_inside, inside};
 
 /// The number of PCRs of a TPM (TCG PC Client Platform TPM Profile).
 const PCR_COUNT: u8 = 24;
-
-/// Whether both are the same digest.
-fn is_same(digest: &Digest, other: &Digest) -> bool
-    ensures { result ≡ bytes_eq digest.now other.now }
-{
-    digest.as_slice() == other.as_slice()
-}
 
 /// The first PCR of the mask whose value isn't what it holds after the choice, and what it holds then, as
 /// what is wrong with the member of this number.
@@ -47,7 +37,7 @@ fn difference(
     for pcr in 0..PCR_COUNT {
         if is_in_mask(pcrs, pcr) {
             let reached = reached(bank, locality, pcr, components, choice);
-            if !is_same(&reached, &values[place]) {
+            if !reached.is_same(&values[place]) {
                 return Some(CheckError::Differs {
                     number,
                     pcr,
@@ -93,15 +83,6 @@ fn fault(
         choice,
         proof.values.as_slice(),
     )
-}
-
-/// The components inside the window's end, which are the tree's first ones.
-pub(crate) fn components_inside<'a>(tree: &'a Tree, end: &Name) -> &'a [Component]
-    ensures value { plain result.now ≡ inside_of end.now (plain tree.now.components) }
-    ensures few { length result.now ≤ 256 }
-{
-    let count = inside(tree, end) as usize;
-    &tree.components.as_slice()[..count]
 }
 
 /// Checks each member of the list: its cut is one of the window's, its choice is one of those of the

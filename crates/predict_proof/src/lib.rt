@@ -10,9 +10,7 @@ mod proof;
 mod proving;
 mod reaching;
 mod reading;
-mod spreading;
 mod values;
-mod words;
 mod writing;
 
 pub use checking::check;

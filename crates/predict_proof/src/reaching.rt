@@ -4,16 +4,16 @@ ghost use Rattle.std.specs.List.{list_any};
 ghost use Rattle.hash_bank.specs.Hash.{size_in};
 ghost use Rattle.cel_record.specs.Spelled.{spelled};
 ghost use Rattle.component_tree.specs.PlainTree.{plain, plain_component};
-ghost use Rattle.pcr_replay.specs.Measured.{extended_by};
 ghost use Rattle.record_match.specs.Choices.{chosen};
-ghost use Rattle.record_match.specs.Extends.{digests_in, reached_by, variants_of};
+ghost use Rattle.record_match.specs.Extends.{reached_by, variants_of};
 ghost use Rattle.predict_proof.specs.Proved.{lacks, some_lacks};
 ghost use Rattle.predict_proof.specs.Chosen.{is_choice, records_of, variant_by};
 
 use cel_record::CelRecord;
 use component_tree::Component;
-use hash_bank::{Bank, Digest, extend, start};
+use hash_bank::{Bank, Digest, start};
 use policy_digest::is_in_mask;
+use predictor::extend_by;
 
 /// Whether the choice has one number for each of the components, which one of its variants has.
 pub(crate) fn is_choice(components: &[Component], choice: &[u32]) -> bool
@@ -80,23 +80,6 @@ pub(crate) fn lacks_some(bank: Bank, pcrs: u32, components: &[Component], choice
         }
     }
     false
-}
-
-/// What the PCR that held the value holds after extends by the bank's digests of its records.
-pub(crate) fn extend_by(bank: Bank, value: &Digest, pcr: u8, records: &[CelRecord]) -> Digest
-    requires { length value.now ≡ size_in bank }
-    ensures value { result ≡ extended_by bank value.now (digests_in bank pcr (map spelled records.now)) }
-    ensures size { length result ≡ size_in bank }
-{
-    let mut held = *value;
-    for measured in records {
-        if measured.pcr == pcr {
-            if let Some(digest) = measured.digests.get(bank) {
-                held = extend(bank, &held, &digest);
-            }
-        }
-    }
-    held
 }
 
 /// What the PCR holds after the chosen variants of the components since a restart at the locality.

@@ -1,5 +1,5 @@
 //! Proof files, read.
-ghost use Rattle.std.specs.Prelude.{◌≡◌, ◌⊎◌, ◌≤◌, length, IfOk, Ok, Err};
+ghost use Rattle.std.specs.Prelude.{◌≡◌, ◌⊎◌, ◌≤◌, ◌∷◌, length, IfOk, MatchOption, Ok, Err};
 ghost use Rattle.std.specs.List.{All};
 ghost use Rattle.predict_proof.specs.declared.error.ProofError.TheVariants as errors;
 ghost use Rattle.predict_proof.specs.declared.file.ProofFile.{ProofFile as File};
@@ -7,19 +7,18 @@ ghost use Rattle.predict_proof.specs.Proved.{HasShape};
 ghost use Rattle.predict_proof.specs.ProofText.{file_text};
 ghost use Rattle.predict_proof.specs.ReadsAs.{IsFile, ReadsAs, ReadsLines};
 ghost use Rattle.predict_proof.specs.ProofsIn.{proofs_from, proofs_in, AnswersText};
-ghost use Rattle.tpm_commands.specs.Parts.{parts_of};
+ghost use Rattle.pl_text.specs.Parts.{parts_of};
 ghost use Rattle.predict_proof.specs.Words.{head_of, proof_by, proof_of};
 
 use crate::error::ProofError;
 use crate::file::ProofFile;
 use crate::proof::Proof;
-use crate::values::{is_locality, read_bank, read_choice, read_pcrs, read_values};
-use crate::words::{four, next_line};
+use crate::values::{is_locality, read_choice, read_pcrs, read_values};
 use hash_bank::{Bank, Digest};
 use pl_base::{List, Memory};
+use pl_text::{four_parts, read_bank, read_number};
 use policy_digest::{Values, pcr_count};
 use std::alloc::Global;
-use tpm_commands::read_number;
 
 /// The most proofs of a file.
 const LIMIT: u32 = 12_288;
@@ -35,7 +34,7 @@ const LAST_LOCALITY: u32 = 4;
 fn read_head(line: &[u8]) -> Option<(Bank, u8)>
     ensures { result ≡ head_of line.now }
 {
-    let (name, version, bank, locality) = four(Some(line), b' ')?;
+    let (name, version, bank, locality) = four_parts(Some(line), b' ')?;
     if name != b"pcrlock-proof".as_slice() || version != b"1".as_slice() {
         return None;
     }
@@ -71,7 +70,7 @@ fn proof_of_parts(pcrs: u32, cut: u32, choice: List<u32>, values: List<Digest>) 
 fn read_proof(alloc: Global, bank: Bank, line: &[u8]) -> Result<Option<Proof>, Memory>
     ensures { IfOk result (λ proof. proof ≡ proof_of bank line.now) }
 {
-    let Some((pcrs, cut, choice, values)) = four(Some(line), b' ') else {
+    let Some((pcrs, cut, choice, values)) = four_parts(Some(line), b' ') else {
         return Ok(None);
     };
     let Some(pcrs) = read_pcrs(pcrs) else {
@@ -87,6 +86,18 @@ fn read_proof(alloc: Global, bank: Bank, line: &[u8]) -> Result<Option<Proof>, M
         return Ok(None);
     };
     Ok(proof_of_parts(pcrs, cut, choice, values))
+}
+
+/// The first line of a text, without its line feed, and the text behind it; nothing where no line feed
+/// stands in the text.
+fn next_line(text: &[u8]) -> Option<(&[u8], &[u8])>
+    ensures { MatchOption result (length (parts_of 10 text.now) ≡ 1) (λ at. parts_of 10 text.now ≡ at.0.now ∷ parts_of 10 at.1.now) }
+{
+    let (line, behind) = pl_text::cut(text, b'\n');
+    match behind {
+        Some(behind) => Some((line, behind)),
+        None => None,
+    }
 }
 
 /// The proofs of the lines behind the first one.

@@ -1,32 +1,20 @@
 //! What a word of a line spells.
-ghost use Rattle.std.specs.Prelude.{◌≡◌, ◌≤◌, [], length, IfOk, IfSome};
+ghost use Rattle.std.specs.Prelude.{◌≡◌, ◌≤◌, [], IfOk};
 ghost use Rattle.std.specs.Str.{bytes_eq};
-ghost use Rattle.hash_bank.specs.Hash.{size_in};
 ghost use Rattle.hex.specs.Hex.{encode_lower};
-ghost use Rattle.tpm_commands.specs.Parts.{parts_of};
-ghost use Rattle.tpm_commands.specs.Values.{bank_of, bytes_of};
+ghost use Rattle.pl_text.specs.Parts.{parts_of};
 ghost use Rattle.predict_proof.specs.Words.{choice_of, digest_of, is_locality, mask_from, mask_with, values_from};
 
 use hash_bank::{Bank, Digest};
 use pl_base::{List, Memory};
+use pl_text::{cut, read_digest, read_number};
 use std::alloc::Global;
-use tpm_commands::{cut, read_number};
 
 /// The greatest number of a PCR (TCG PC Client Platform TPM Profile, 24 PCRs).
 const LAST_PCR: u32 = 23;
 
 /// The greatest number of a variant.
 const LAST_VARIANT: u32 = 63;
-
-/// The bank of this name.
-pub(crate) fn read_bank(word: &[u8]) -> Option<Bank>
-    ensures { result ≡ bank_of word.now }
-{
-    Bank::ALL
-        .iter()
-        .copied()
-        .find(|bank| bank.name().as_bytes() == word)
-}
 
 /// Whether a platform may start at the locality.
 pub(crate) fn is_locality(number: u32) -> bool
@@ -79,19 +67,6 @@ pub(crate) fn read_choice(alloc: Global, word: &[u8]) -> Result<Option<List<u32>
     Ok(Some(choice))
 }
 
-/// The bank's digest in hexadecimal digits of either case.
-fn read_either(bank: Bank, word: &[u8]) -> Option<Digest>
-    ensures value { result ≡ bytes_of (size_in bank) word.now }
-    ensures size { IfSome result (λ digest. length digest ≡ size_in bank) }
-{
-    let mut room = [0; 64];
-    let bytes = &mut room[..bank.size()];
-    match hex::decode_to_slice(word, bytes) {
-        Ok(()) => Digest::from_slice(bytes),
-        Err(_) => None,
-    }
-}
-
 /// Whether the word is the digest's hexadecimal digits in lower case.
 fn is_lower(digest: &Digest, word: &[u8]) -> bool
     ensures { result ≡ bytes_eq (encode_lower digest.now) word.now }
@@ -106,10 +81,10 @@ fn is_lower(digest: &Digest, word: &[u8]) -> bool
 }
 
 /// The bank's digest in lower-case hexadecimal digits.
-fn read_digest(bank: Bank, word: &[u8]) -> Option<Digest>
+fn read_lower(bank: Bank, word: &[u8]) -> Option<Digest>
     ensures { result ≡ digest_of bank word.now }
 {
-    let digest = read_either(bank, word)?;
+    let digest = read_digest(bank, word)?;
     if is_lower(&digest, word) {
         Some(digest)
     } else {
@@ -129,7 +104,7 @@ pub(crate) fn read_values(
     let mut digests = Some(word);
     'digests: while let Some(text) = digests {
         let (digest, behind) = cut(text, b',');
-        let Some(digest) = read_digest(bank, digest) else {
+        let Some(digest) = read_lower(bank, digest) else {
             return Ok(None);
         };
         values.push(digest)?;

@@ -12,7 +12,7 @@ use crate::file::ProofFile;
 use crate::proof::Proof;
 use hash_bank::{Bank, Digest};
 use pl_base::{List, Memory};
-use policy_digest::is_in_mask;
+use policy_digest::pcrs_in;
 use std::alloc::Global;
 use std::fmt::Write;
 
@@ -60,17 +60,15 @@ fn write_values(text: &mut String, values: &[Digest]) -> Result<(), Memory>
     Ok(())
 }
 
-/// The PCRs of the mask, ascending.
-fn pcrs_in(alloc: Global, mask: u32) -> Result<List<u32>, Memory>
-    ensures { IfOk result (λ pcrs. pcrs ≡ pcrs_of mask) }
+/// The same numbers in more room.
+fn widened(alloc: Global, pcrs: &[u8]) -> Result<List<u32>, Memory>
+    ensures { IfOk result (λ numbers. numbers ≡ pcrs.now) }
 {
-    let mut pcrs = List::new(alloc);
-    for pcr in 0..24u8 {
-        if is_in_mask(mask, pcr) {
-            pcrs.push(u32::from(pcr))?;
-        }
+    let mut numbers = List::new(alloc);
+    for pcr in pcrs {
+        numbers.push(u32::from(*pcr))?;
     }
-    Ok(pcrs)
+    Ok(numbers)
 }
 
 /// Writes the numbers of variants, or `-` for none.
@@ -90,7 +88,8 @@ fn write_words(alloc: Global, text: &mut String, proof: &Proof) -> Result<(), Me
         ++ (numbers_text (pcrs_of proof.now.pcrs) ++ codes " " ++ decimal proof.now.cut ++ codes " " ++ choice_text proof.now.choice ++ codes " " ++ values_text proof.now.values ++ codes "\n")) }
 {
     let pcrs = pcrs_in(alloc, proof.pcrs)?;
-    write_numbers(text, pcrs.as_slice())?;
+    let numbers = widened(alloc, pcrs.as_slice())?;
+    write_numbers(text, numbers.as_slice())?;
     let cut = proof.cut;
     write!(text, " {cut} ")?;
     write_choice(text, proof.choice.as_slice())?;

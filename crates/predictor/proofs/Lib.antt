@@ -1,11 +1,12 @@
 pub mod Repeats
+pub mod Firsts
+pub mod OverCuts
 pub mod Puttings
 pub mod StateKeys
 pub mod Growth
 pub mod Spreads
 pub mod Insides
 pub mod OnePcr
-pub mod MaskLists
 pub mod WindowLemmas
 pub mod Sorts
 pub mod Sound

@@ -3,6 +3,7 @@ use Rattle.std.proofs.Common.{◌≡◌, ℕ, zero, suc, ◌+◌, ◌-◌, ◌�
 use Rattle.std.specs.Prelude.{filter, find, IfOk}
 use Rattle.std.specs.List.{list_all, list_any, flat_map, range_with_len, AllByRecursion}
 use Rattle.std.specs.Option.{option_or}
+use Rattle.std.specs.Result.{result_map_both}
 use Rattle.std.specs.Str.{bytes_eq}
 use Rattle.std.specs.Cmp.{upto}
 use Rattle.std.specs.Cmp.Lexicographic.{nat_list_cmp_total}
@@ -23,14 +24,16 @@ use Rattle.record_match.specs.Lacking.{lacking_of}
 use Rattle.record_match.specs.declared.lacking.RecordPlace.{RecordPlace}
 use Rattle.record_match.proofs.Searches.{find-append}
 use Rattle.predictor.specs.declared.error.ForeseeError.{ForeseeError}
+use Rattle.predictor.specs.declared.reached.Reached.{Reached}
 use Rattle.predictor.specs.declared.window.Window.{Window}
 use Rattle.predictor.specs.Cuts.{inside_of, is_inside, cuts_between}
 use Rattle.predictor.specs.Distinct.{put, put_all, distinct}
 use Rattle.predictor.specs.Ends.{is_greater}
 use Rattle.predictor.specs.Foreseen.{Answers, over_cuts, has_too_many, too_many_at, foreseen_unless, first_cut, last_cut, foreseen, foreseen_joint, lacking_in_any}
+use Rattle.predictor.specs.Reaching.{values_in}
 use Rattle.predictor.specs.States.{values_after, states_after}
 use Rattle.predictor.proofs.Repeats.{Tells, bytes_tell, values_tell, all_put_grows}
-use Rattle.predictor.proofs.Spreads.{range_split}
+use Rattle.predictor.proofs.OverCuts.{range_split}
 
 pub both : (a b : Bool) → a ≡ true → b ≡ true → (a && b) ≡ true
 both a b h k = rw (h, k) refl
@@ -261,3 +264,12 @@ pub joint_counted : (bank : Bank) (locality : ℕ) (pcrs : List ℕ) (window : W
     → IfOk result (λ list. (1 ≤ length list) × (length list ≤ 512))
 joint_counted bank locality pcrs window components (Ok list) h = counted (fits bank (length pcrs)) values_eq list (joint_sound bank locality pcrs window (plain components) list (plain_variants components) h)
 joint_counted bank locality pcrs window components (Err e) h = tt
+
+-- and each with what leads to it
+pub reached_counted : (bank : Bank) (locality : ℕ) (pcrs : List ℕ) (window : Window) (components : List Component) (result : Result (List Reached) ForeseeError)
+    → Answers (result_map_both values_in (λ (e : ForeseeError). e) result) (foreseen_joint bank locality pcrs window (plain components)) → IfOk result (λ list. (1 ≤ length list) × (length list ≤ 512))
+reached_counted bank locality pcrs window components (Ok list) h =
+    let c = joint_counted bank locality pcrs window components (Ok (values_in list)) h in
+    let same = length-map list (λ s. s.values) in
+    (omega (arith, c.0, same), omega (arith, c.1, same))
+reached_counted bank locality pcrs window components (Err e) h = tt

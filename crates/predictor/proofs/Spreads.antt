@@ -1,92 +1,58 @@
--- What is kept, cut after cut.
-use Rattle.std.proofs.Common.{◌≡◌, ℕ, zero, suc, ◌+◌, ◌-◌, ◌<◌, ◌≤◌, Bool, true, false, cond, ltb, leb, eqb, List, [], ◌∷◌, ◌++◌, length, get_or, take, map, Option, Some, None, Ok, Err, refl, sym, ap, ◌∙◌, subst, inl, inr, arith}
+-- What is kept of states, cut after cut.
+use Rattle.std.proofs.Common.{◌≡◌, ℕ, suc, ◌+◌, ◌-◌, ◌<◌, ◌≤◌, Bool, true, false, cond, ltb, leb, eqb, List, [], ◌∷◌, length, get_or, take, map, Option, Some, None, Result, Ok, Err, refl, sym, ap, ◌∙◌, subst, arith}
 use Rattle.std.specs.Prelude.{find}
 use Rattle.std.specs.List.{flat_map, range_with_len}
 use Rattle.std.specs.Option.{option_or}
-use Rattle.std.proofs.lemmas.Bool.{cases_lt, lt-ltb, le-ltb, or_left, or_right, or_from, lt-leb, le-leb, ne_eqb}
-use Rattle.std.proofs.lemmas.List.{append-nil, map_more, take-map}
-use Rattle.std.proofs.lemmas.List.Concat.{flat_map-append}
+use Rattle.std.proofs.lemmas.Bool.{or_left, or_right, or_from, lt-ltb, le-ltb}
+use Rattle.std.proofs.lemmas.List.{length-map}
 use Rattle.hash_bank.specs.Extending.{start_of}
 use Rattle.hash_bank.specs.declared.bank.Bank.{Bank}
 use Rattle.component_tree.specs.declared.tree.Component.{Component}
-use Rattle.component_tree.specs.PlainTree.{PlainVariant, PlainComponent, plain_variant, plain_component, plain}
+use Rattle.component_tree.specs.PlainTree.{plain, plain_variant}
 use Rattle.policy_digest.specs.Table.{values_eq}
+use Rattle.record_match.specs.Choices.{choices}
+use Rattle.record_match.specs.Extends.{variants_of}
 use Rattle.record_match.proofs.Searches.{find-append}
-use Rattle.predictor.specs.declared.spreading.Stop.{Stop}
-use Rattle.predictor.specs.declared.spreading.Stop.TheVariants as stops
+use Rattle.predictor.specs.declared.error.ForeseeError.{ForeseeError}
+use Rattle.predictor.specs.declared.error.ForeseeError.TheVariants as errors
 use Rattle.predictor.specs.Cuts.{cuts_between}
 use Rattle.predictor.specs.Distinct.{put_all, distinct}
 use Rattle.predictor.specs.States.{states_after}
 use Rattle.predictor.specs.Foreseen.{value_limit, over_cuts, has_too_many, foreseen_by, foreseen_unless, Refuses}
-use Rattle.predictor.specs.Spread.{extended_state, next_states, Puts, Collects, stopped_at}
-use Rattle.predictor.proofs.Repeats.{values_tell, all_put-append, put_distinct, dropped_early}
-use Rattle.predictor.proofs.Growth.{one_more}
+use Rattle.predictor.proofs.Growth.{map-map, map-flat_map, flat_map-same, reached_grown}
+use Rattle.predictor.proofs.Repeats.{values_tell}
+use Rattle.predictor.specs.declared.reached.Reached.{Reached}
+use Rattle.predictor.specs.declared.spreading.Stop.{Stop}
+use Rattle.predictor.specs.declared.spreading.Stop.TheVariants as stops
+use Rattle.predictor.specs.Reaching.{reached_with, reached_at, same_values, values_in}
+use Rattle.predictor.specs.Spread.{extended_state, nexts_from, next_states, Puts, Collects, stopped_at}
+use Rattle.predictor.proofs.Firsts.{firsts_early, view_put}
+use Rattle.predictor.proofs.OverCuts.{range_split, over_more, over_none, cut_put}
+use Rattle.predictor.proofs.Puttings.{nexts_values}
 
-abbrev State : Type 0
-State = List (List ℕ)
+-- the states after k components, without and with what leads to them
+abbrev pub states_at : Bank → ℕ → List ℕ → List Component → ℕ → List (List (List ℕ))
+states_at bank locality pcrs components k = states_after bank locality pcrs (take k (plain components))
 
--- ---- ranges
+abbrev pub reached_after : Bank → ℕ → List ℕ → List Component → ℕ → List Reached
+reached_after bank locality pcrs components k = reached_at bank locality pcrs k (take k (plain components))
 
-pub range_split : (a m k : ℕ) → range_with_len a (m + k) ≡ range_with_len a m ++ range_with_len (a + m) k
-range_split a zero k = let z : 0 + k ≡ k = omega arith in let b : a ≡ a + 0 = omega arith in ap (range_with_len a) z ∙ ap (λ n. range_with_len n k) b
-range_split a (suc m) k =
-    let s : suc m + k ≡ suc (m + k) = omega arith in
-    let b : a + 1 + m ≡ a + suc m = omega arith in
-    ap (range_with_len a) s ∙ ap (λ (l : List ℕ). a ∷ l) (range_split (a + 1) m k ∙ ap (λ n. range_with_len (a + 1) m ++ range_with_len n k) b)
-
--- one cut more
-cuts_more : (first k : ℕ) → first ≤ k + 1 → cuts_between first (k + 1) ≡ cuts_between first k ++ (k + 1) ∷ []
-cuts_more first k le =
-    let n : k + 1 + 1 - first ≡ (k + 1 - first) + 1 = omega arith in
-    let m : first + (k + 1 - first) ≡ k + 1 = omega arith in
-    ap (range_with_len first) n ∙ range_split first (k + 1 - first) 1 ∙ ap (λ j. range_with_len first (k + 1 - first) ++ j ∷ []) m
-
-no_cuts : (first k : ℕ) → k < first → cuts_between first k ≡ []
-no_cuts first k lt = let n : k + 1 - first ≡ 0 = omega arith in ap (range_with_len first) n
-
--- ---- what is reached over one cut more
-
-over_more : (reach : ℕ → List State) (first k : ℕ) → over_cuts values_eq reach (cuts_between first (k + 1)) ≡ put_all values_eq (over_cuts values_eq reach (cuts_between first k)) (cond (leb first (k + 1)) (reach (k + 1)) [])
-over_more reach first k =
-    elim (cases_lt (k + 1) first) [
-      | inl lt ↦
-          ap (over_cuts values_eq reach) (no_cuts first (k + 1) lt ∙ sym (no_cuts first k (omega arith)))
-          ∙ ap (λ b. put_all values_eq (over_cuts values_eq reach (cuts_between first k)) (cond b (reach (k + 1)) [])) (sym (lt-leb first (k + 1) lt))
-      | inr le ↦
-          ap (over_cuts values_eq reach) (cuts_more first k le)
-          ∙ ap (distinct values_eq) (flat_map-append reach (cuts_between first k) ((k + 1) ∷ []) ∙ ap (λ (l : List State). flat_map reach (cuts_between first k) ++ l) (append-nil (reach (k + 1))))
-          ∙ all_put-append values_eq [] (flat_map reach (cuts_between first k)) (reach (k + 1))
-          ∙ ap (λ b. put_all values_eq (over_cuts values_eq reach (cuts_between first k)) (cond b (reach (k + 1)) [])) (sym (le-leb first (k + 1) le))
-    ]
-
-over_none : (reach : ℕ → List State) (first : ℕ) → over_cuts values_eq reach (cuts_between first 0) ≡ put_all values_eq [] (cond (eqb first 0) (reach 0) [])
-over_none reach zero = ap (distinct values_eq) (append-nil (reach 0))
-over_none reach (suc first) = ap (over_cuts values_eq reach) (no_cuts (suc first) 0 (omega arith)) ∙ ap (λ b. put_all values_eq [] (cond b (reach 0) [])) (sym (ne_eqb (suc first) 0 (λ e. omega arith)))
-
--- repeats are dropped before a cut's states are put
-cut_put : (list reached : List State) (b : Bool) → put_all values_eq list (cond b (distinct values_eq reached) []) ≡ put_all values_eq list (cond b reached [])
-cut_put list reached true = put_distinct values_eq values_tell list reached
-cut_put list reached false = refl
-
--- ---- what holds after i components
-
-pub record Spreading (reach : ℕ → List (List (List ℕ))) (first i : ℕ) (states reached : List (List (List ℕ))) : Type 0 where
-  pub states_are : states ≡ distinct values_eq (reach i)
-  pub reached_are : reached ≡ over_cuts values_eq reach (cuts_between first i)
+-- what holds after i components
+pub record Spreading (bank : Bank) (locality : ℕ) (pcrs : List ℕ) (components : List Component) (first i : ℕ) (states reached : List Reached) : Type 0 where
+  pub states_are : states ≡ distinct same_values (reached_after bank locality pcrs components i)
+  pub reached_are : reached ≡ over_cuts same_values (reached_after bank locality pcrs components) (cuts_between first i)
   pub few_reached : length reached ≤ value_limit
-  pub none : find (has_too_many values_eq reach first) (range_with_len 0 (i + 1)) ≡ None
+  pub none : find (has_too_many values_eq (states_at bank locality pcrs components) first) (range_with_len 0 (i + 1)) ≡ None
 
--- enough, or too many
-few_enough : (reach : ℕ → List State) (first k : ℕ) → length (distinct values_eq (reach k)) ≤ value_limit → length (over_cuts values_eq reach (cuts_between first k)) ≤ value_limit → has_too_many values_eq reach first k ≡ false
-few_enough reach first k a b = or_from (ltb value_limit (length (distinct values_eq (reach k)))) (ltb value_limit (length (over_cuts values_eq reach (cuts_between first k)))) (le-ltb value_limit (length (distinct values_eq (reach k))) a) (le-ltb value_limit (length (over_cuts values_eq reach (cuts_between first k))) b)
+-- ---- the first number that passes
 
-pub too_many_states : (reach : ℕ → List (List (List ℕ))) (first k : ℕ) → value_limit < length (distinct values_eq (reach k)) → has_too_many values_eq reach first k ≡ true
+-- too many states, or too many over the cuts
+too_many_states : (reach : ℕ → List (List (List ℕ))) (first k : ℕ) → value_limit < length (distinct values_eq (reach k)) → has_too_many values_eq reach first k ≡ true
 too_many_states reach first k lt = or_left (ltb value_limit (length (distinct values_eq (reach k)))) (ltb value_limit (length (over_cuts values_eq reach (cuts_between first k)))) (lt-ltb value_limit (length (distinct values_eq (reach k))) lt)
 
-pub too_many_reached : (reach : ℕ → List (List (List ℕ))) (first k : ℕ) → value_limit < length (over_cuts values_eq reach (cuts_between first k)) → has_too_many values_eq reach first k ≡ true
+too_many_reached : (reach : ℕ → List (List (List ℕ))) (first k : ℕ) → value_limit < length (over_cuts values_eq reach (cuts_between first k)) → has_too_many values_eq reach first k ≡ true
 too_many_reached reach first k lt = or_right (ltb value_limit (length (distinct values_eq (reach k)))) (ltb value_limit (length (over_cuts values_eq reach (cuts_between first k)))) (lt-ltb value_limit (length (over_cuts values_eq reach (cuts_between first k))) lt)
 
--- the first number with too many
 first_many : (p : ℕ → Bool) (i n : ℕ) → i < n → find p (range_with_len 0 i) ≡ None → p i ≡ true → find p (range_with_len 0 n) ≡ Some i
 first_many p i n lt none here =
     let m : n ≡ i + suc (n - i - 1) = omega arith in
@@ -98,7 +64,6 @@ first_many p i n lt none here =
     ∙ ap (λ k. find p (range_with_len k (suc (n - i - 1)))) z
     ∙ ap (λ b. cond b (Some i) (find p (range_with_len (i + 1) (n - i - 1)))) here
 
--- none up to one number more
 none_more : (p : ℕ → Bool) (i : ℕ) → find p (range_with_len 0 (i + 1)) ≡ None → p (i + 1) ≡ false → find p (range_with_len 0 (i + 1 + 1)) ≡ None
 none_more p i none here =
     let z : 0 + (i + 1) ≡ i + 1 = omega arith in
@@ -106,87 +71,111 @@ none_more p i none here =
     ∙ ap (λ (o : Option ℕ). option_or o (find p (range_with_len (0 + (i + 1)) 1))) none
     ∙ ap (λ k. find p (range_with_len k 1)) z ∙ ap (λ b. cond b (Some (i + 1)) None) here
 
--- ---- the answers
+module _ (bank : Bank) (locality : ℕ) (pcrs : List ℕ) (components : List Component) (first : ℕ) where
+  abbrev states_k : ℕ → List (List (List ℕ))
+  states_k = states_at bank locality pcrs components
 
--- it stops at the first cut
-pub stops_first : (reach : ℕ → List (List (List ℕ))) (first last : ℕ) (stop : Stop) (states new : List (List (List ℕ))) → states ≡ distinct values_eq (reach 0)
-    → Puts {A = Unit {0}} (Err stop) [] new (cond (eqb first 0) states []) → Refuses (stopped_at 0 stop) (foreseen_by values_eq reach first last None)
-stops_first reach first last stops.Full states new are puts =
-    let same : put_all values_eq [] (cond (eqb first 0) states []) ≡ over_cuts values_eq reach (cuts_between first 0) =
-    ap (λ (l : List State). put_all values_eq [] (cond (eqb first 0) l [])) are ∙ cut_put [] (reach 0) (eqb first 0) ∙ sym (over_none reach first) in
-    ap (λ (o : Option ℕ). foreseen_unless None o (over_cuts values_eq reach (cuts_between first last)))
-    (first_many (has_too_many values_eq reach first) 0 (last + 1) (omega arith) refl (too_many_reached reach first 0 (subst (λ (l : List State). value_limit < length l) same puts)))
-stops_first reach first last stops.Memory states new are puts = tt
+  abbrev reached_k : ℕ → List Reached
+  reached_k = reached_after bank locality pcrs components
 
-pub starts : (reach : ℕ → List (List (List ℕ))) (first : ℕ) (s : List (List ℕ)) (states new : List (List (List ℕ))) → reach 0 ≡ s ∷ [] → states ≡ s ∷ []
-    → Puts {A = Unit {0}} (Ok tt) [] new (cond (eqb first 0) states []) → Spreading reach first 0 states new
-starts reach first s states new one are puts =
-    let states_are : states ≡ distinct values_eq (reach 0) = are ∙ ap (distinct values_eq) (sym one) in
-    let reached_are : new ≡ over_cuts values_eq reach (cuts_between first 0) =
-    puts.0 ∙ ap (λ (l : List State). put_all values_eq [] (cond (eqb first 0) l [])) states_are ∙ cut_put [] (reach 0) (eqb first 0) ∙ sym (over_none reach first) in
-    let one_few : length (distinct values_eq (reach 0)) ≤ value_limit = subst (λ (l : List State). length (distinct values_eq l) ≤ value_limit) (sym one) (omega arith) in
-    record {
-      states_are = states_are;
-      reached_are = reached_are;
-      few_reached = puts.1;
-      none = ap (λ b. cond b (Some 0) None) (few_enough reach first 0 one_few (subst (λ (l : List State). length l ≤ value_limit) reached_are puts.1));
-    }
+  abbrev start : Reached
+  start = record { cut = 0; choice = []; values = map (λ p. start_of bank p locality) pcrs }
 
--- the next component's states
-next_are : (reach : ℕ → List State) (bank : Bank) (pcrs : List ℕ) (variants : List PlainVariant) (i : ℕ) (states : List State) → reach (i + 1) ≡ next_states bank pcrs variants (reach i) → states ≡ distinct values_eq (reach i)
-    → distinct values_eq (next_states bank pcrs variants states) ≡ distinct values_eq (reach (i + 1))
-next_are reach bank pcrs variants i states grown are =
-    ap (λ (l : List State). distinct values_eq (next_states bank pcrs variants l)) are
-    ∙ dropped_early values_eq values_tell values_eq values_tell (λ s. map (λ v. extended_state bank pcrs s v.records) variants) (reach i)
-    ∙ ap (distinct values_eq) (sym grown)
+  abbrev spread_to : ℕ → List Reached → List Reached → Type 0
+  spread_to i states reached = Spreading bank locality pcrs components first i states reached
 
-pub stops_in_step : (reach : ℕ → List (List (List ℕ))) (bank : Bank) (pcrs : List ℕ) (variants : List PlainVariant) (first i last : ℕ) (stop : Stop) (states reached : List (List (List ℕ))) → i < last → Spreading reach first i states reached
-    → reach (i + 1) ≡ next_states bank pcrs variants (reach i) → Collects (Err stop) (next_states bank pcrs variants states) → Refuses (stopped_at (i + 1) stop) (foreseen_by values_eq reach first last None)
-stops_in_step reach bank pcrs variants first i last stops.Full states reached lt s grown h =
-    ap (λ (o : Option ℕ). foreseen_unless None o (over_cuts values_eq reach (cuts_between first last)))
-    (first_many (has_too_many values_eq reach first) (i + 1) (last + 1) (omega arith) s.none (too_many_states reach first (i + 1) (subst (λ (l : List State). value_limit < length l) (next_are reach bank pcrs variants i states grown s.states_are) h)))
-stops_in_step reach bank pcrs variants first i last stops.Memory states reached lt s grown h = tt
+  abbrev all_states : ℕ → Result (List (List (List ℕ))) ForeseeError
+  all_states last = foreseen_by values_eq states_k first last None
 
--- over the next cut
-cut_same : (reach : ℕ → List State) (first i : ℕ) (states next reached : List State) → Spreading reach first i states reached → next ≡ distinct values_eq (reach (i + 1)) → put_all values_eq reached (cond (leb first (i + 1)) next []) ≡ over_cuts values_eq reach (cuts_between first (i + 1))
-cut_same reach first i states next reached s next_is =
-    ap (λ (l : List State). put_all values_eq reached (cond (leb first (i + 1)) l [])) next_is
-    ∙ cut_put reached (reach (i + 1)) (leb first (i + 1))
-    ∙ ap (λ (l : List State). put_all values_eq l (cond (leb first (i + 1)) (reach (i + 1)) [])) s.reached_are
-    ∙ sym (over_more reach first i)
+  -- ---- as many values as states
 
-pub stops_at_cut : (reach : ℕ → List (List (List ℕ))) (bank : Bank) (pcrs : List ℕ) (variants : List PlainVariant) (first i last : ℕ) (stop : Stop) (states next reached new : List (List (List ℕ))) → i < last → Spreading reach first i states reached
-    → reach (i + 1) ≡ next_states bank pcrs variants (reach i) → Collects (Ok next) (next_states bank pcrs variants states)
-    → Puts {A = Unit {0}} (Err stop) reached new (cond (leb first (i + 1)) next []) → Refuses (stopped_at (i + 1) stop) (foreseen_by values_eq reach first last None)
-stops_at_cut reach bank pcrs variants first i last stops.Full states next reached new lt s grown h puts =
-    let next_is = h.0 ∙ next_are reach bank pcrs variants i states grown s.states_are in
-    ap (λ (o : Option ℕ). foreseen_unless None o (over_cuts values_eq reach (cuts_between first last)))
-    (first_many (has_too_many values_eq reach first) (i + 1) (last + 1) (omega arith) s.none (too_many_reached reach first (i + 1) (subst (λ (l : List State). value_limit < length l) (cut_same reach first i states next reached s next_is) puts)))
-stops_at_cut reach bank pcrs variants first i last stops.Memory states next reached new lt s grown h puts = tt
+  values_k : (k : ℕ) → values_in (reached_k k) ≡ states_k k
+  values_k k = map-map (reached_with bank locality pcrs k (take k (plain components))) (λ q. q.values) (choices (variants_of (take k (plain components))))
 
-pub spreads : (reach : ℕ → List (List (List ℕ))) (bank : Bank) (pcrs : List ℕ) (variants : List PlainVariant) (first i : ℕ) (states next reached new : List (List (List ℕ))) → Spreading reach first i states reached
-    → reach (i + 1) ≡ next_states bank pcrs variants (reach i) → Collects (Ok next) (next_states bank pcrs variants states)
-    → Puts {A = Unit {0}} (Ok tt) reached new (cond (leb first (i + 1)) next []) → Spreading reach first (i + 1) next new
-spreads reach bank pcrs variants first i states next reached new s grown h puts =
-    let next_is = h.0 ∙ next_are reach bank pcrs variants i states grown s.states_are in
-    let new_is : new ≡ over_cuts values_eq reach (cuts_between first (i + 1)) = puts.0 ∙ cut_same reach first i states next reached s next_is in
-    record {
-      states_are = next_is;
-      reached_are = new_is;
-      few_reached = puts.1;
-      none = none_more (has_too_many values_eq reach first) i s.none (few_enough reach first (i + 1) (subst (λ (l : List State). length l ≤ value_limit) next_is h.1) (subst (λ (l : List State). length l ≤ value_limit) new_is puts.1));
-    }
+  distinct_values : (xs : List Reached) → values_in (distinct same_values xs) ≡ distinct values_eq (values_in xs)
+  distinct_values xs = view_put (λ q. q.values) values_eq [] xs
 
-pub spread_out : (reach : ℕ → List (List (List ℕ))) (first i last : ℕ) (states reached : List (List (List ℕ))) → i ≡ last → Spreading reach first i states reached → foreseen_by values_eq reach first last None ≡ Ok reached
-spread_out reach first i last states reached all s =
-    ap (λ n. foreseen_by values_eq reach first n None) (sym all)
-    ∙ ap (λ (o : Option ℕ). foreseen_unless None o (over_cuts values_eq reach (cuts_between first i))) s.none ∙ ap Ok (sym s.reached_are)
+  over_values : (cuts : List ℕ) → values_in (over_cuts same_values reached_k cuts) ≡ over_cuts values_eq states_k cuts
+  over_values cuts =
+      distinct_values (flat_map reached_k cuts)
+      ∙ ap (distinct values_eq) (map-flat_map reached_k (λ q. q.values) cuts ∙ flat_map-same (λ k. values_in (reached_k k)) states_k values_k cuts)
 
--- ---- the states of components
+  count_at : (k : ℕ) → length (distinct values_eq (states_k k)) ≡ length (distinct same_values (reached_k k))
+  count_at k = ap (λ xs. length (distinct values_eq xs)) (sym (values_k k)) ∙ ap length (sym (distinct_values (reached_k k))) ∙ length-map (distinct same_values (reached_k k)) (λ q. q.values)
 
-pub grown_by : (bank : Bank) (locality : ℕ) (pcrs : List ℕ) (components : List Component) (i : ℕ) (c : Component) → i < length components → c ≡ get_or components i c
-    → states_after bank locality pcrs (take (i + 1) (plain components)) ≡ next_states bank pcrs (map plain_variant c.variants) (states_after bank locality pcrs (take i (plain components)))
-grown_by bank locality pcrs components i c lt is =
-    let more : take (i + 1) (plain components) ≡ take i (plain components) ++ plain_component c ∷ [] =
-    take-map plain_component (i + 1) components ∙ map_more plain_component components i c lt ∙ ap (λ (d : Component). map plain_component (take i components) ++ plain_component d ∷ []) (sym is) ∙ ap (λ (l : List PlainComponent). l ++ plain_component c ∷ []) (sym (take-map plain_component i components)) in
-    ap (states_after bank locality pcrs) more ∙ one_more bank pcrs (λ p. start_of bank p locality) (take i (plain components)) (plain_component c)
+  count_over : (cuts : List ℕ) → length (over_cuts values_eq states_k cuts) ≡ length (over_cuts same_values reached_k cuts)
+  count_over cuts = ap length (sym (over_values cuts)) ∙ length-map (over_cuts same_values reached_k cuts) (λ q. q.values)
+
+  few_enough : (k : ℕ) → length (distinct same_values (reached_k k)) ≤ value_limit → length (over_cuts same_values reached_k (cuts_between first k)) ≤ value_limit → has_too_many values_eq states_k first k ≡ false
+  few_enough k a b =
+      or_from (ltb value_limit (length (distinct values_eq (states_k k)))) (ltb value_limit (length (over_cuts values_eq states_k (cuts_between first k))))
+      (le-ltb value_limit (length (distinct values_eq (states_k k))) (omega (arith, a, count_at k)))
+      (le-ltb value_limit (length (over_cuts values_eq states_k (cuts_between first k))) (omega (arith, b, count_over (cuts_between first k))))
+
+  too_many : (k last : ℕ) → k ≤ last → find (has_too_many values_eq states_k first) (range_with_len 0 k) ≡ None → has_too_many values_eq states_k first k ≡ true → Refuses (errors.TooMany k) (all_states last)
+  too_many k last le none here =
+      ap (λ (o : Option ℕ). foreseen_unless None o (over_cuts values_eq states_k (cuts_between first last))) (first_many (has_too_many values_eq states_k first) k (last + 1) (omega arith) none here)
+
+  too_many_over : (k last : ℕ) (new : List Reached) → k ≤ last → find (has_too_many values_eq states_k first) (range_with_len 0 k) ≡ None → new ≡ over_cuts same_values reached_k (cuts_between first k) → value_limit < length new → Refuses (errors.TooMany k) (all_states last)
+  too_many_over k last new le none is longer =
+      too_many k last le none (too_many_reached states_k first k (omega (arith, longer, ap length is, count_over (cuts_between first k))))
+
+  -- ---- the first cut
+
+  first_put : (states : List Reached) → states ≡ start ∷ [] → put_all same_values [] (cond (eqb first 0) states []) ≡ over_cuts same_values reached_k (cuts_between first 0)
+  first_put states are = ap (λ (l : List Reached). put_all same_values [] (cond (eqb first 0) l [])) are ∙ sym (over_none same_values reached_k first)
+
+  pub first_stops : (last : ℕ) (stop : Stop) (states new : List Reached) → states ≡ start ∷ [] → Puts {A = Unit {0}} (Err stop) [] new (cond (eqb first 0) states []) → Refuses (stopped_at 0 stop) (all_states last)
+  first_stops last stops.Full states new are puts = too_many_over 0 last (put_all same_values [] (cond (eqb first 0) states [])) (omega arith) refl (first_put states are) puts
+  first_stops last stops.Memory states new are puts = tt
+
+  -- ---- one component more
+
+  module _ (i : ℕ) (c : Component) (lt : i < length components) (is : c ≡ get_or components i c) (states reached : List Reached) (s : spread_to i states reached) where
+    next_are : distinct same_values (next_states bank pcrs (i + 1) (map plain_variant c.variants) states) ≡ distinct same_values (reached_k (i + 1))
+    next_are =
+        let nexts : Reached → List Reached = nexts_from bank pcrs (i + 1) 0 (map plain_variant c.variants) in
+        ap (λ (l : List Reached). distinct same_values (next_states bank pcrs (i + 1) (map plain_variant c.variants) l)) s.states_are
+        ∙ firsts_early (λ q. q.values) values_eq values_tell (λ q. q.values) values_eq values_tell nexts
+        (λ x y alike. nexts_values bank pcrs (i + 1) 0 (map plain_variant c.variants) x
+        ∙ ap (λ (values : List (List ℕ)). map (λ v. extended_state bank pcrs values v.records) (map plain_variant c.variants)) alike
+        ∙ sym (nexts_values bank pcrs (i + 1) 0 (map plain_variant c.variants) y)) (reached_k i)
+        ∙ ap (distinct same_values) (sym (reached_grown bank locality pcrs components i c lt is))
+
+    next_put : (next : List Reached) → next ≡ distinct same_values (reached_k (i + 1)) → put_all same_values reached (cond (leb first (i + 1)) next []) ≡ over_cuts same_values reached_k (cuts_between first (i + 1))
+    next_put next next_is =
+        ap (λ (l : List Reached). put_all same_values reached (cond (leb first (i + 1)) l [])) next_is
+        ∙ cut_put (λ q. q.values) values_eq values_tell reached (reached_k (i + 1)) (leb first (i + 1))
+        ∙ ap (λ (l : List Reached). put_all same_values l (cond (leb first (i + 1)) (reached_k (i + 1)) [])) s.reached_are
+        ∙ sym (over_more same_values reached_k first i)
+
+    pub step_refused : (last : ℕ) (stop : Stop) → i < last → Collects (Err stop) (next_states bank pcrs (i + 1) (map plain_variant c.variants) states) → Refuses (stopped_at (i + 1) stop) (all_states last)
+    step_refused last stops.Full below h =
+        too_many (i + 1) last (omega arith) s.none (too_many_states states_k first (i + 1) (omega (arith, h, ap length next_are, count_at (i + 1))))
+    step_refused last stops.Memory below h = tt
+
+    pub cut_refused : (last : ℕ) (stop : Stop) (next new : List Reached) → i < last → Collects (Ok next) (next_states bank pcrs (i + 1) (map plain_variant c.variants) states)
+        → Puts {A = Unit {0}} (Err stop) reached new (cond (leb first (i + 1)) next []) → Refuses (stopped_at (i + 1) stop) (all_states last)
+    cut_refused last stops.Full next new below h puts =
+        too_many_over (i + 1) last (put_all same_values reached (cond (leb first (i + 1)) next [])) (omega arith) s.none (next_put next (h.0 ∙ next_are)) puts
+    cut_refused last stops.Memory next new below h puts = tt
+
+    pub next_spread : (next new : List Reached) → Collects (Ok next) (next_states bank pcrs (i + 1) (map plain_variant c.variants) states)
+        → Puts {A = Unit {0}} (Ok tt) reached new (cond (leb first (i + 1)) next []) → spread_to (i + 1) next new
+    next_spread next new h puts =
+        let next_is : next ≡ distinct same_values (reached_k (i + 1)) = h.0 ∙ next_are in
+        let new_is : new ≡ over_cuts same_values reached_k (cuts_between first (i + 1)) = puts.0 ∙ next_put next next_is in
+        record {
+          states_are = next_is;
+          reached_are = new_is;
+          few_reached = puts.1;
+          none = none_more (has_too_many values_eq states_k first) i s.none (few_enough (i + 1) (subst (λ (l : List Reached). length l ≤ value_limit) next_is h.1) (subst (λ (l : List Reached). length l ≤ value_limit) new_is puts.1));
+        }
+
+  -- ---- all components
+
+  pub all_spread : (i last : ℕ) (states reached : List Reached) → i ≡ last → spread_to i states reached → all_states last ≡ Ok (values_in reached)
+  all_spread i last states reached all s =
+      ap all_states (sym all)
+      ∙ ap (λ (o : Option ℕ). foreseen_unless None o (over_cuts values_eq states_k (cuts_between first i))) s.none
+      ∙ ap Ok (sym (ap values_in s.reached_are ∙ over_values (cuts_between first i)))

@@ -11,7 +11,8 @@ use Rattle.std.proofs.Math.ListN.{drop_of_length-le}
 use Rattle.std.proofs.lemmas.List.Edits.{remove-append_right}
 use Rattle.record_match.proofs.Searches.{any-append}
 use Rattle.policy_digest.specs.Table.{values_eq}
-use Rattle.predictor.specs.StateOrder.{state_cmp, state_total, HasKeys}
+use Rattle.predictor.specs.declared.reached.Reached.{Reached}
+use Rattle.predictor.specs.StateOrder.{state_cmp, state_total, has_values, HasKeys}
 
 abbrev State : Type 0
 State = List (List ℕ)
@@ -33,12 +34,12 @@ or_more true false = refl
 or_more false true = refl
 or_more false false = refl
 
-pub keys_more : (keys new list : List (List (List ℕ))) (s : List (List ℕ)) → HasKeys keys list
-    → ((q : List (List ℕ)) → list_any (is_at (state_cmp q)) new ≡ cond (is_at (state_cmp s) q) true (list_any (is_at (state_cmp q)) keys)) → HasKeys new (list ++ s ∷ [])
-keys_more keys new list s has grown q =
-    grown q ∙ ap (cond (is_at (state_cmp s) q) true) (has q) ∙ or_more (is_at (state_cmp s) q) (list_any (values_eq q) list)
-    ∙ ap (λ b. list_any (values_eq q) list || (b || false)) (at_back s q ∙ sym (same_state q s))
-    ∙ sym (any-append (values_eq q) list (s ∷ []))
+pub keys_more : (keys new : List (List (List ℕ))) (list : List Reached) (key : List (List ℕ)) (s : Reached) → key ≡ s.values → HasKeys keys list
+    → ((q : List (List ℕ)) → list_any (is_at (state_cmp q)) new ≡ cond (is_at (state_cmp key) q) true (list_any (is_at (state_cmp q)) keys)) → HasKeys new (list ++ s ∷ [])
+keys_more keys new list key s same has grown q =
+    grown q ∙ ap (cond (is_at (state_cmp key) q) true) (has q) ∙ or_more (is_at (state_cmp key) q) (has_values q list)
+    ∙ ap (λ b. has_values q list || (b || false)) (at_back key q ∙ sym (same_state q key) ∙ ap (values_eq q) same)
+    ∙ sym (any-append (λ (r : Reached). values_eq q r.values) list (s ∷ []))
 
 -- a member that was just put is taken back
 pub taken_back : {A : Type 0} (xs : List A) (y : A) → remove (xs ++ y ∷ []) (length xs) ≡ xs

@@ -9,10 +9,12 @@ use Rattle.policy_digest.specs.Table.{values_eq}
 use Rattle.record_match.specs.Lacking.{lacking_of}
 use Rattle.record_match.specs.declared.lacking.RecordPlace.{RecordPlace}
 use Rattle.predictor.specs.declared.error.ForeseeError.{ForeseeError}
+use Rattle.predictor.specs.declared.reached.Reached.{Reached}
 use Rattle.predictor.specs.declared.window.Window.{Window}
-use Rattle.predictor.specs.Cuts.{inside_of}
+use Rattle.predictor.specs.Cuts.{cuts_between, inside_of}
 use Rattle.predictor.specs.States.{values_after, states_after}
-use Rattle.predictor.specs.Foreseen.{first_cut, foreseen, foreseen_joint, foreseen_by, lacking_error, lacking_in_any, Answers, Refuses}
+use Rattle.predictor.specs.Foreseen.{first_cut, foreseen, foreseen_joint, foreseen_by, lacking_error, lacking_in_any, over_cuts, Answers, Refuses}
+use Rattle.predictor.specs.Reaching.{reached_at, first_reached, same_values}
 use Rattle.predictor.proofs.OnePcr.{states_alone, ok_alone, err_alone}
 use Rattle.predictor.proofs.Insides.{plain_count}
 
@@ -78,3 +80,13 @@ joint_has bank locality pcrs window tree components first result is has from_fir
     ∙ ap (foreseen_by values_eq reach (first_cut window tree) (length (plain components))) (sym has)
     ∙ ap (λ n. foreseen_by values_eq reach (first_cut window tree) n None) (plain_count components)
     ∙ ap (λ n. foreseen_by values_eq reach n (length components) None) (sym from_first))) h
+
+-- what is kept over the cuts, as the code counts them
+pub are_first : (bank : Bank) (locality : ℕ) (pcrs : List ℕ) (window : Window) (tree : List PlainComponent) (components : List Component) (first : ℕ) (list : List Reached) → plain components ≡ inside_of window.end tree → first ≡ first_cut window tree
+    → list ≡ over_cuts same_values (λ k. reached_at bank locality pcrs k (take k (plain components))) (cuts_between first (length components)) → list ≡ first_reached bank locality pcrs window tree
+are_first bank locality pcrs window tree components first list is from_first h =
+    let inside = inside_of window.end tree in
+    h
+    ∙ ap (λ n. over_cuts same_values (λ k. reached_at bank locality pcrs k (take k (plain components))) (cuts_between first n)) (sym (plain_count components))
+    ∙ ap (λ (cs : List PlainComponent). over_cuts same_values (λ k. reached_at bank locality pcrs k (take k cs)) (cuts_between first (length cs))) is
+    ∙ ap (λ n. over_cuts same_values (λ k. reached_at bank locality pcrs k (take k inside)) (cuts_between n (length inside))) from_first

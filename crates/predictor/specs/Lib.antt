@@ -5,6 +5,7 @@ pub mod StateOrder
 pub mod Cuts
 pub mod States
 pub mod Foreseen
+pub mod Reaching
 pub mod Spread
 pub mod Protected
 pub mod Sorting

@@ -1,11 +1,11 @@
 -- Which of the asked PCRs a policy can protect, the table that protects them, and why each other one is left out.
-use Rattle.std.specs.Prelude.{◌≡◌, ℕ, ◌^◌, Bool, true, false, bit_or, fold, List, [], ◌∷◌, map, slice_index_or, Option, Some, None, Result, Ok, Err, if◌then◌else◌}
+use Rattle.std.specs.Prelude.{◌≡◌, ℕ, ◌^◌, Bool, true, false, List, [], ◌∷◌, map, slice_index_or, Option, Some, None, Result, Ok, Err, if◌then◌else◌}
 use Rattle.std.specs.Str.{bytes_eq}
 use Rattle.hash_bank.specs.declared.bank.Bank.{Bank}
 use Rattle.component_tree.specs.PlainTree.{PlainComponent}
 use Rattle.pcr_replay.specs.Row.{Row as LogRow}
 use Rattle.pcr_replay.specs.Measured.{measured_in, replayed_in}
-use Rattle.policy_digest.specs.Mask.{pcrs_of}
+use Rattle.policy_digest.specs.Mask.{mask_of, pcrs_of}
 use Rattle.policy_digest.specs.declared.table.Row.{Row}
 use Rattle.record_match.specs.Recognition.{recognised}
 use Rattle.record_match.specs.declared.error.MatchError.{MatchError}
@@ -102,10 +102,6 @@ kept_or_cause pcr (Some cause) rest = (rest.0, left_out pcr cause ∷ rest.1)
 abbrev pub kept_of : (ℕ → Result (Option Cause) ProtectError) → List ℕ → Result (List ℕ × List LeftOut) ProtectError
 kept_of standing [] = Ok ([], [])
 kept_of standing (p ∷ pcrs) = standing p >>= λ cause. kept_of standing pcrs >>= λ rest. Ok (kept_or_cause p cause rest)
-
--- the mask with these PCRs' bits
-abbrev pub mask_of : List ℕ → ℕ
-mask_of pcrs = fold (λ mask p. bit_or mask (2 ^ p)) 0 pcrs
 
 abbrev pub joint_row : List ℕ → List (List (List ℕ)) → Row
 joint_row pcrs states = record { pcrs = mask_of pcrs; choices = states }

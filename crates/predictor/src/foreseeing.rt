@@ -1,16 +1,19 @@
 //! What is foreseen over a window.
-ghost use Rattle.std.specs.Prelude.{◌≡◌, ◌≤◌, ◌<◌, ◌^◌, [], ◌∷◌, map, length, take, IfOk, None};
+ghost use Rattle.std.specs.Prelude.{◌≡◌, ◌≤◌, ◌<◌, ◌^◌, map, length, take, IfOk, OnOk, None};
 ghost use Rattle.std.specs.List.{All};
+ghost use Rattle.std.specs.Result.{result_map_both};
 ghost use Rattle.component_tree.specs.PlainTree.{plain};
 ghost use Rattle.policy_digest.specs.Table.{values_eq};
 ghost use Rattle.policy_digest.specs.Levels.{first_of};
 ghost use Rattle.policy_digest.specs.Mask.{pcrs_of};
-ghost use Rattle.predictor.specs.Cuts.{inside_of};
+ghost use Rattle.predictor.specs.Cuts.{cuts_between, inside_of};
 ghost use Rattle.predictor.specs.States.{states_after};
-ghost use Rattle.predictor.specs.Foreseen.{Answers, value_limit, foreseen, foreseen_joint, foreseen_by, lacking_error, lacking_in_any};
+ghost use Rattle.predictor.specs.Foreseen.{Answers, value_limit, foreseen, foreseen_joint, foreseen_by, lacking_error, lacking_in_any, over_cuts};
+ghost use Rattle.predictor.specs.Reaching.{first_reached, reached_at, same_values, values_in};
 ghost use Rattle.predictor.specs.Spread.{stopped_at};
 
 use crate::error::ForeseeError;
+use crate::reached::Reached;
 use crate::reading::inside;
 use crate::seen::Distinct;
 use crate::spreading::{Stop, put_cut, start_state, step};
@@ -18,7 +21,7 @@ use crate::window::Window;
 use component_tree::{Component, Tree};
 use hash_bank::{Bank, Digest};
 use pl_base::{List, Memory, Name};
-use policy_digest::{Values, is_in_mask};
+use policy_digest::{Values, pcrs_in};
 use record_match::{RecordPlace, first_lacking};
 use std::alloc::Global;
 
@@ -33,7 +36,7 @@ fn stopped(stop: Stop, cut: u32) -> ForeseeError
 }
 
 /// The states of these PCRs over the cuts from the first one to the number of the components, and all
-/// choices of the components before a cut, without repeats.
+/// choices of the components before a cut, each with what first leads to it.
 fn spread(
     alloc: Global,
     bank: Bank,
@@ -41,12 +44,13 @@ fn spread(
     pcrs: &[u8],
     components: &[Component],
     first: usize,
-) -> Result<List<Values>, ForeseeError>
+) -> Result<List<Reached>, ForeseeError>
     requires some { 1 ≤ length pcrs.now }
     requires few { length pcrs.now ≤ 24 }
     requires in_range { All (λ p. p ≤ 23) pcrs.now }
     requires few_components { length components.now ≤ 256 }
-    ensures { Answers result (foreseen_by values_eq (λ k. states_after bank locality pcrs.now (take k (plain components.now))) first (length components.now) None) }
+    ensures states { Answers (result_map_both values_in (λ e. e) result) (foreseen_by values_eq (λ k. states_after bank locality pcrs.now (take k (plain components.now))) first (length components.now) None) }
+    ensures reached { IfOk result (λ list. list ≡ over_cuts same_values (λ k. reached_at bank locality pcrs.now k (take k (plain components.now))) (cuts_between first (length components.now))) }
 {
     let mut states = List::new(alloc);
     states.push(start_state(alloc, bank, locality, pcrs)?)?;
@@ -61,6 +65,7 @@ fn spread(
             alloc,
             bank,
             pcrs,
+            cut as u32,
             states.as_slice(),
             component.variants.as_slice(),
         ) {
@@ -76,7 +81,7 @@ fn spread(
 }
 
 /// The components inside the window's end, which are the tree's first ones.
-pub(crate) fn components_inside<'a>(tree: &'a Tree, end: &Name) -> &'a [Component]
+pub fn components_inside<'a>(tree: &'a Tree, end: &Name) -> &'a [Component]
     ensures value { plain result.now ≡ inside_of end.now (plain tree.now.components) }
     ensures few { length result.now ≤ 256 }
 {
@@ -96,15 +101,15 @@ fn no_digest(at: RecordPlace) -> ForeseeError
 }
 
 /// The first value of a state, which has some.
-fn first_value(state: &Values) -> Digest
-    ensures { result ≡ first_of state.now }
+fn first_value(state: &Reached) -> Digest
+    ensures { result ≡ first_of state.now.values }
 {
-    state.as_slice()[0]
+    state.values.as_slice()[0]
 }
 
 /// The first value of each state.
-fn first_values(alloc: Global, states: &[Values]) -> Result<List<Digest>, Memory>
-    ensures { IfOk result (λ list. list ≡ map first_of states.now) }
+fn first_values(alloc: Global, states: &[Reached]) -> Result<List<Digest>, Memory>
+    ensures { IfOk result (λ list. list ≡ map first_of (values_in states.now)) }
 {
     let mut list = List::new(alloc);
     for state in states {
@@ -146,21 +151,6 @@ pub fn foresee(
     }
 }
 
-/// The PCRs of the mask, ascending.
-pub(crate) fn pcrs_in(alloc: Global, mask: u32) -> Result<List<u8>, Memory>
-    ensures value { IfOk result (λ list. list ≡ pcrs_of mask) }
-    ensures few { IfOk result (λ list. length list ≤ 24) }
-    ensures in_range { IfOk result (λ list. All (λ p. p ≤ 23) list) }
-{
-    let mut list = List::new(alloc);
-    for pcr in 0..24u8 {
-        if is_in_mask(mask, pcr) {
-            list.push(pcr)?;
-        }
-    }
-    Ok(list)
-}
-
 /// The first record that lacks the bank, of the first PCR that has one.
 fn lacking_in_one(components: &[Component], pcrs: &[u8], bank: Bank) -> Option<RecordPlace>
     requires { length components.now ≤ 256 }
@@ -172,6 +162,41 @@ fn lacking_in_one(components: &[Component], pcrs: &[u8], bank: Bank) -> Option<R
         }
     }
     None
+}
+
+/// The states of these PCRs, as `foresee_choices` says.
+fn reach(
+    alloc: Global,
+    tree: &Tree,
+    window: &Window,
+    pcrs: &[u8],
+    bank: Bank,
+    locality: u8,
+) -> Result<List<Reached>, ForeseeError>
+    requires some { 1 ≤ length pcrs.now }
+    requires few { length pcrs.now ≤ 24 }
+    requires in_range { All (λ p. p ≤ 23) pcrs.now }
+    ensures states { Answers (result_map_both values_in (λ e. e) result) (foreseen_joint bank locality pcrs.now window.now (plain tree.now.components)) }
+    ensures reached { IfOk result (λ list. list ≡ first_reached bank locality pcrs.now window.now (plain tree.now.components)) }
+    ensures whole { OnOk result (lacking_in_any bank pcrs.now (inside_of window.now.end (plain tree.now.components)) ≡ None) }
+{
+    let components = components_inside(tree, &window.end);
+    if let Some(at) = lacking_in_one(components, pcrs, bank) {
+        return Err(no_digest(at));
+    }
+    let first = inside(tree, &window.start) as usize;
+    spread(alloc, bank, locality, pcrs, components, first)
+}
+
+/// The values of each state.
+fn values_of(alloc: Global, states: &[Reached]) -> Result<List<Values>, Memory>
+    ensures { IfOk result (λ list. list ≡ values_in states.now) }
+{
+    let mut list = List::new(alloc);
+    for state in states {
+        list.push(state.values.copy(alloc)?)?;
+    }
+    Ok(list)
 }
 
 /// The states of these PCRs, as `foresee_joint` says.
@@ -188,12 +213,10 @@ pub(crate) fn foresee_pcrs(
     requires in_range { All (λ p. p ≤ 23) pcrs.now }
     ensures { Answers result (foreseen_joint bank locality pcrs.now window.now (plain tree.now.components)) }
 {
-    let components = components_inside(tree, &window.end);
-    if let Some(at) = lacking_in_one(components, pcrs, bank) {
-        return Err(no_digest(at));
+    match reach(alloc, tree, window, pcrs, bank, locality) {
+        Ok(states) => Ok(values_of(alloc, states.as_slice())?),
+        Err(error) => Err(error),
     }
-    let first = inside(tree, &window.start) as usize;
-    spread(alloc, bank, locality, pcrs, components, first)
 }
 
 /// The states of the PCRs of the mask, ascending by PCR, after each choice of variants of the components
@@ -220,4 +243,30 @@ pub fn foresee_joint(
 {
     let pcrs = pcrs_in(alloc, pcrs)?;
     foresee_pcrs(alloc, tree, window, pcrs.as_slice(), bank, locality)
+}
+
+/// The states that `foresee_joint` gives, in its order, each with the first cut of the window that has it
+/// and, of the choices that lead to it there, the first one in lexicographic order.
+///
+/// # Errors
+///
+/// Those of `foresee_joint`, where it has them.
+pub fn foresee_choices(
+    alloc: Global,
+    tree: &Tree,
+    window: &Window,
+    pcrs: u32,
+    bank: Bank,
+    locality: u8,
+) -> Result<List<Reached>, ForeseeError>
+    requires some { 0 < pcrs }
+    requires in_range { pcrs < 2 ^ 24 }
+    ensures states { Answers (result_map_both values_in (λ e. e) result) (foreseen_joint bank locality (pcrs_of pcrs) window.now (plain tree.now.components)) }
+    ensures reached { IfOk result (λ list. list ≡ first_reached bank locality (pcrs_of pcrs) window.now (plain tree.now.components)) }
+    ensures counted { IfOk result (λ list. (1 ≤ length list) × (length list ≤ value_limit)) }
+    // Each record of the PCRs inside the window has the bank.
+    ensures whole { OnOk result (lacking_in_any bank (pcrs_of pcrs) (inside_of window.now.end (plain tree.now.components)) ≡ None) }
+{
+    let pcrs = pcrs_in(alloc, pcrs)?;
+    reach(alloc, tree, window, pcrs.as_slice(), bank, locality)
 }

@@ -1,35 +1,27 @@
 //! Which of the asked PCRs a policy can protect.
 ghost use Rattle.std.specs.Prelude.{◌≡◌, ◌≢◌, true, ◌^◌, ◌≤◌, ◌<◌, [], ◌∷◌, map, length, slice_index_or, IfOk, OnOk};
 ghost use Rattle.std.specs.List.{All};
-ghost use Rattle.std.specs.Str.{bytes_eq};
 ghost use Rattle.component_tree.specs.PlainTree.{plain};
 ghost use Rattle.pcr_replay.specs.Row.{rows};
 ghost use Rattle.pcr_replay.specs.Measured.{measured_in};
-ghost use Rattle.policy_digest.specs.Mask.{pcrs_of};
+ghost use Rattle.policy_digest.specs.Mask.{mask_of, pcrs_of};
 ghost use Rattle.policy_digest.specs.Table.{valid_table};
 ghost use Rattle.predictor.specs.Cuts.{inside_of};
 ghost use Rattle.predictor.specs.Foreseen.{foreseen, foreseen_joint};
-ghost use Rattle.predictor.specs.Protected.{Answers, by_measured, standing_of, standing_in, refusal_for, replayed_with, refused_for, where_replayed, mask_of, joint_rows, rows_of, kept_of, protected_each, protected_joint, protected_of};
+ghost use Rattle.predictor.specs.Protected.{Answers, by_measured, standing_of, standing_in, refusal_for, replayed_with, refused_for, where_replayed, joint_rows, rows_of, kept_of, protected_each, protected_joint, protected_of};
 ghost use Rattle.predictor.specs.Sorting.{TakesRow, TakesPcr, KeptAnswers};
 
 use crate::error::{ForeseeError, ProtectError};
-use crate::foreseeing::{components_inside, foresee, foresee_pcrs, pcrs_in};
+use crate::foreseeing::{components_inside, foresee, foresee_pcrs};
 use crate::protection::{Cause, LeftOut, Protection};
 use crate::window::Window;
 use component_tree::{Component, Tree};
 use hash_bank::{Bank, Digest};
 use pcr_replay::{LogRecord, measured, replay};
 use pl_base::{List, Memory};
-use policy_digest::{Row, Table, Values};
+use policy_digest::{Row, Table, Values, pcrs_in};
 use record_match::{MatchError, explain};
 use std::alloc::Global;
-
-/// Whether both are the same digest.
-fn is_same(digest: &Digest, other: &Digest) -> bool
-    ensures { result ≡ bytes_eq digest.now other.now }
-{
-    digest.as_slice() == other.as_slice()
-}
 
 /// Why no choice of the components explains the PCR's digests in the log, if none does.
 fn unexplained(
@@ -84,7 +76,7 @@ fn standing(
     let Some(replayed) = replay(log, pcr, bank, locality) else {
         return Ok(Some(Cause::NoLogDigest));
     };
-    if !is_same(&replayed, now) {
+    if !replayed.is_same(now) {
         return Ok(Some(Cause::ValueDiffers {
             replayed,
             now: *now,

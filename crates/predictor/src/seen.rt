@@ -1,12 +1,12 @@
-//! Distinct states in the order in which they first came, beside a set of them for quick look-ups.
+//! Distinct states in the order in which they first came, beside a set of their values for quick look-ups.
 
-ghost use Rattle.std.specs.Prelude.{◌≡◌, ◌++◌, [], ◌∷◌, length, true, OnOk, MatchResult};
+ghost use Rattle.std.specs.Prelude.{◌≡◌, ◌++◌, [], ◌∷◌, length, true, false, IfOk, OnOk, MatchOption, MatchResult};
 ghost use Rattle.std.specs.Bool.{OnTrue};
-ghost use Rattle.std.specs.List.{list_any};
-ghost use Rattle.policy_digest.specs.Table.{values_eq};
 ghost use Rattle.predictor.specs.Distinct.{put};
-ghost use Rattle.predictor.specs.StateOrder.{HasKeys};
+ghost use Rattle.predictor.specs.Reaching.{same_values};
+ghost use Rattle.predictor.specs.StateOrder.{has_values, HasKeys};
 
+use crate::reached::Reached;
 use crate::state_key::StateKey;
 use pl_base::{List, Memory};
 use policy_digest::Values;
@@ -14,49 +14,61 @@ use std::alloc::Global;
 use std::collections::BTreeSet;
 use std::marker::Model;
 
-/// Distinct states. Contracts see the list of them.
+/// States of which no two have the same values. Contracts see the list of them.
 #[derive(Drop)]
 pub(crate) struct Distinct {
-    list: List<Values>,
+    list: List<Reached>,
     keys: BTreeSet<StateKey>,
 }
 
 impl Model for Distinct {
-    ghost use Rattle.std.specs.Prelude.{ℕ, List};
+    ghost use Rattle.std.specs.Prelude.{List};
+    ghost use Rattle.predictor.specs.declared.reached.Reached.{Reached};
     ghost use Rattle.predictor.specs.StateOrder.{HasKeys};
 
-    ghost Value = { List (List (List ℕ)) };
+    ghost Value = { List Reached };
 
     ghost view = { λ d. d.list };
 
     ghost invariant = { λ d. HasKeys d.keys.keys d.list };
 }
 
-/// Whether the values are the list's last ones. Variants that measure the same into the PCRs, or
-/// nothing, give the same values one after the other, so this is asked before the whole set.
-fn is_last(list: &[Values], values: &Values) -> bool
-    ensures { OnTrue result (list_any (values_eq values.now) list.now ≡ true) }
+/// Whether the values are those of the list's last state. Variants that measure the same into the PCRs,
+/// or nothing, give the same values one after the other, so this is asked before the whole set.
+fn is_last(list: &[Reached], values: &Values) -> bool
+    ensures { OnTrue result (has_values values.now list.now ≡ true) }
 {
     match list.last() {
-        Some(last) => values.is_same(last),
+        Some(last) => values.is_same(&last.values),
         None => false,
     }
 }
 
-/// Puts the state, which isn't there, to the list and to its keys. For want of memory both stay.
+/// The choice with one number more.
+fn longer(alloc: Global, choice: &[u32], number: u32) -> Result<List<u32>, Memory>
+    ensures { IfOk result (λ more. more ≡ choice.now ++ number ∷ []) }
+{
+    let mut more = Vec::with_capacity(alloc, choice.len() + 1)?;
+    more.extend_from_slice(choice)?;
+    more.push(number)?;
+    Ok(List::from_vec(more))
+}
+
+/// Puts the state, whose values aren't there, to the list and its values to the keys. For want of memory
+/// both stay.
 fn add(
-    list: &mut List<Values>,
+    list: &mut List<Reached>,
     keys: &mut BTreeSet<StateKey>,
-    values: Values,
+    state: Reached,
     key: StateKey,
 ) -> Result<(), Memory>
-    requires same { key ≡ values }
+    requires same { key ≡ state.values }
     requires has_keys { HasKeys keys.old.keys list.old }
-    ensures listed { MatchResult result (λ _. list.new ≡ list.old ++ values ∷ []) (λ _. list.new ≡ list.old) }
+    ensures listed { MatchResult result (λ _. list.new ≡ list.old ++ state ∷ []) (λ _. list.new ≡ list.old) }
     ensures has_keys { HasKeys keys.new.keys list.new }
 {
     let count = list.len();
-    list.push(values)?;
+    list.push(state)?;
     match keys.insert(key) {
         Ok(_) => Ok(()),
         Err(_) => {
@@ -85,32 +97,62 @@ impl Distinct {
     }
 
     /// The states without their keys.
-    pub(crate) fn into_list(self) -> List<Values>
+    pub(crate) fn into_list(self) -> List<Reached>
         ensures { result ≡ self }
     {
         let Distinct { list, .. } = self;
         list
     }
 
-    /// Puts the state at the end, unless it is there.
-    pub(crate) fn put(&mut self, alloc: Global, values: Values) -> Result<(), Memory>
-        ensures { OnOk result (self.new ≡ put values_eq self.old values) }
+    /// The values as a key, unless a state has them.
+    fn missing(&self, values: Values) -> Option<StateKey>
+        ensures { MatchOption result (has_values values self.now ≡ true) (λ key. (key ≡ values) × (has_values values self.now ≡ false)) }
     {
         if is_last(self.list.as_slice(), &values) {
-            return Ok(());
+            return None;
         }
         let key = StateKey::new(values);
         if self.keys.contains(&key) {
-            return Ok(());
+            return None;
         }
-        let values = key.values().copy(alloc)?;
-        add(&mut self.list, &mut self.keys, values, key)
+        Some(key)
     }
 
-    /// Puts a copy of the state at the end, unless it is there.
-    pub(crate) fn put_copy(&mut self, alloc: Global, values: &Values) -> Result<(), Memory>
-        ensures { OnOk result (self.new ≡ put values_eq self.old values.now) }
+    /// Puts a state with these values at the end, unless there is one. Its choice is the one before with
+    /// the number behind it.
+    pub(crate) fn put_next(
+        &mut self,
+        alloc: Global,
+        cut: u32,
+        before: &[u32],
+        number: u32,
+        values: Values,
+    ) -> Result<(), Memory>
+        ensures { OnOk result (self.new ≡ put same_values self.old (record { cut = cut; choice = before.now ++ number ∷ []; values = values })) }
     {
-        self.put(alloc, values.copy(alloc)?)
+        let Some(key) = self.missing(values) else {
+            return Ok(());
+        };
+        let state = Reached {
+            cut,
+            choice: longer(alloc, before, number)?,
+            values: key.values().copy(alloc)?,
+        };
+        add(&mut self.list, &mut self.keys, state, key)
+    }
+
+    /// Puts a copy of the state at the end, unless one with its values is there.
+    pub(crate) fn put_copy(&mut self, alloc: Global, state: &Reached) -> Result<(), Memory>
+        ensures { OnOk result (self.new ≡ put same_values self.old state.now) }
+    {
+        let Some(key) = self.missing(state.values.copy(alloc)?) else {
+            return Ok(());
+        };
+        let state = Reached {
+            cut: state.cut,
+            choice: List::from_vec(Vec::from_slice(alloc, state.choice.as_slice())?),
+            values: key.values().copy(alloc)?,
+        };
+        add(&mut self.list, &mut self.keys, state, key)
     }
 }

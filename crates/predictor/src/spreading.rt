@@ -1,16 +1,17 @@
-//! The states that several PCRs may have together, each kept once, component after component.
-ghost use Rattle.std.specs.Prelude.{◌≡◌, ◌+◌, ◌<◌, ◌≤◌, [], map, length, if◌then◌else◌, IfOk, OnOk};
+//! The states that several PCRs may have together, each kept once with what first led to it, component
+//! after component.
+ghost use Rattle.std.specs.Prelude.{◌≡◌, ◌≤◌, [], map, length, if◌then◌else◌, IfOk, OnOk};
 ghost use Rattle.std.specs.List.{All};
 ghost use Rattle.hash_bank.specs.Hash.{size_in};
 ghost use Rattle.hash_bank.specs.Extending.{start_of};
 ghost use Rattle.cel_record.specs.Spelled.{spelled};
-ghost use Rattle.component_tree.specs.PlainTree.{plain, plain_variant};
+ghost use Rattle.component_tree.specs.PlainTree.{plain_variant};
 ghost use Rattle.pcr_replay.specs.Measured.{extended_by};
-ghost use Rattle.policy_digest.specs.Table.{values_eq};
 ghost use Rattle.record_match.specs.Extends.{digests_in};
 ghost use Rattle.predictor.specs.Foreseen.{value_limit};
-ghost use Rattle.predictor.specs.Spread.{extended_state, next_states, IsState, Puts, Collects};
+ghost use Rattle.predictor.specs.Spread.{extended_state, next_states, nexts_from, HasState, IsState, Puts, Collects};
 
+use crate::reached::Reached;
 use crate::seen::Distinct;
 use cel_record::CelRecord;
 use component_tree::Variant;
@@ -32,7 +33,7 @@ pub(crate) enum Stop {
 }
 
 /// What the PCR that held the value holds after extends by the bank's digests of its records.
-fn extend_by(bank: Bank, value: &Digest, pcr: u8, records: &[CelRecord]) -> Digest
+pub fn extend_by(bank: Bank, value: &Digest, pcr: u8, records: &[CelRecord]) -> Digest
     requires { length value.now ≡ size_in bank }
     ensures value { result ≡ extended_by bank value.now (digests_in bank pcr (map spelled records.now)) }
     ensures size { length result ≡ size_in bank }
@@ -49,12 +50,7 @@ fn extend_by(bank: Bank, value: &Digest, pcr: u8, records: &[CelRecord]) -> Dige
 }
 
 /// The values of these PCRs after a restart at the locality.
-pub(crate) fn start_state(
-    alloc: Global,
-    bank: Bank,
-    locality: u8,
-    pcrs: &[u8],
-) -> Result<Values, Memory>
+fn start_values(alloc: Global, bank: Bank, locality: u8, pcrs: &[u8]) -> Result<Values, Memory>
     requires some { 1 ≤ length pcrs.now }
     requires few { length pcrs.now ≤ 24 }
     requires in_range { All (λ p. p ≤ 23) pcrs.now }
@@ -71,26 +67,46 @@ pub(crate) fn start_state(
     }
 }
 
-/// The values of these PCRs, which have those of the state, after extends by the records.
-fn next_state(
+/// The state of these PCRs after a restart at the locality: no component has been measured.
+pub(crate) fn start_state(
+    alloc: Global,
+    bank: Bank,
+    locality: u8,
+    pcrs: &[u8],
+) -> Result<Reached, Memory>
+    requires some { 1 ≤ length pcrs.now }
+    requires few { length pcrs.now ≤ 24 }
+    requires in_range { All (λ p. p ≤ 23) pcrs.now }
+    ensures value { IfOk result (λ s. s ≡ record { cut = 0; choice = []; values = map (λ p. start_of bank p locality) pcrs.now }) }
+    ensures fits { IfOk result (HasState bank (length pcrs.now)) }
+{
+    Ok(Reached {
+        cut: 0,
+        choice: List::new(alloc),
+        values: start_values(alloc, bank, locality, pcrs)?,
+    })
+}
+
+/// The values of these PCRs after extends by the records.
+fn next_values(
     alloc: Global,
     bank: Bank,
     pcrs: &[u8],
-    state: &[Digest],
+    values: &[Digest],
     records: &[CelRecord],
 ) -> Result<Values, Memory>
     requires some { 1 ≤ length pcrs.now }
     requires few { length pcrs.now ≤ 24 }
-    requires fits { IsState bank (length pcrs.now) state.now }
-    ensures value { IfOk result (λ values. values ≡ extended_state bank pcrs.now state.now (map spelled records.now)) }
-    ensures fits { IfOk result (λ values. IsState bank (length pcrs.now) values) }
+    requires fits { IsState bank (length pcrs.now) values.now }
+    ensures value { IfOk result (λ next. next ≡ extended_state bank pcrs.now values.now (map spelled records.now)) }
+    ensures fits { IfOk result (λ next. IsState bank (length pcrs.now) next) }
 {
     let mut list = List::new(alloc);
     for (place, pcr) in pcrs.iter().enumerate() {
-        list.push(extend_by(bank, &state[place], *pcr, records))?;
+        list.push(extend_by(bank, &values[place], *pcr, records))?;
     }
     match Values::from_vec(list.into_vec()) {
-        Some(values) => Ok(values),
+        Some(next) => Ok(next),
         None => unreachable!(),
     }
 }
@@ -100,27 +116,26 @@ fn put_after(
     alloc: Global,
     bank: Bank,
     pcrs: &[u8],
-    state: &Values,
+    cut: u32,
+    state: &Reached,
     variants: &[Variant],
     list: &mut Distinct,
 ) -> Result<(), Stop>
     requires some { 1 ≤ length pcrs.now }
     requires few { length pcrs.now ≤ 24 }
-    requires fits { IsState bank (length pcrs.now) state.now }
+    requires fits { HasState bank (length pcrs.now) state.now }
+    requires few_variants { length variants.now ≤ 64 }
     requires within { length list.old ≤ value_limit }
-    requires all_fit { All (IsState bank (length pcrs.now)) list.old }
-    ensures puts { Puts result list.old list.new (map (λ v. extended_state bank pcrs.now state.now v.records) (map plain_variant variants.now)) }
-    ensures all_fit { OnOk result (All (IsState bank (length pcrs.now)) list.new) }
+    requires all_fit { All (HasState bank (length pcrs.now)) list.old }
+    ensures puts { Puts result list.old list.new (nexts_from bank pcrs.now cut 0 (map plain_variant variants.now) state.now) }
+    ensures all_fit { OnOk result (All (HasState bank (length pcrs.now)) list.new) }
 {
-    for variant in variants {
-        match next_state(
-            alloc,
-            bank,
-            pcrs,
-            state.as_slice(),
-            variant.records.as_slice(),
-        ) {
-            Ok(next) => match list.put(alloc, next) {
+    let before = state.values.as_slice();
+    let choice = state.choice.as_slice();
+    for (number, variant) in variants.iter().enumerate() {
+        let records = variant.records.as_slice();
+        match next_values(alloc, bank, pcrs, before, records) {
+            Ok(values) => match list.put_next(alloc, cut, choice, number as u32, values) {
                 Ok(()) => {}
                 Err(_) => return Err(Stop::Memory),
             },
@@ -133,23 +148,26 @@ fn put_after(
     Ok(())
 }
 
-/// Each of the states after each of the variants, without repeats.
+/// Each of the states after each of the variants, where later ones with values that came before are
+/// dropped.
 pub(crate) fn step(
     alloc: Global,
     bank: Bank,
     pcrs: &[u8],
-    states: &[Values],
+    cut: u32,
+    states: &[Reached],
     variants: &[Variant],
-) -> Result<List<Values>, Stop>
+) -> Result<List<Reached>, Stop>
     requires some { 1 ≤ length pcrs.now }
     requires few { length pcrs.now ≤ 24 }
-    requires all_fit { All (IsState bank (length pcrs.now)) states.now }
-    ensures collects { Collects result (next_states bank pcrs.now (map plain_variant variants.now) states.now) }
-    ensures all_fit { IfOk result (λ list. All (IsState bank (length pcrs.now)) list) }
+    requires few_variants { length variants.now ≤ 64 }
+    requires all_fit { All (HasState bank (length pcrs.now)) states.now }
+    ensures collects { Collects result (next_states bank pcrs.now cut (map plain_variant variants.now) states.now) }
+    ensures all_fit { IfOk result (All (HasState bank (length pcrs.now))) }
 {
     let mut list = Distinct::new(alloc);
     for state in states {
-        match put_after(alloc, bank, pcrs, state, variants, &mut list) {
+        match put_after(alloc, bank, pcrs, cut, state, variants, &mut list) {
             Ok(()) => {}
             Err(stop) => return Err(stop),
         }
@@ -157,11 +175,11 @@ pub(crate) fn step(
     Ok(list.into_list())
 }
 
-/// Puts the states to the list, if they stand at a cut of the window.
+/// Puts copies of the states to the list, if they stand at a cut of the window.
 pub(crate) fn put_cut(
     alloc: Global,
     list: &mut Distinct,
-    states: &[Values],
+    states: &[Reached],
     is_cut: bool,
 ) -> Result<(), Stop>
     requires { length list.old ≤ value_limit }

@@ -22,7 +22,7 @@ returns-then-not-is_same c =
     let whole : Option (ℕ × List ℕ) = first_differing held (pcrs_of c.args.pcrs) c.args.values.now in
     let there = sym c.if-is_in_mask.true ∙ c.is_in_mask.ensures in
     let room = has_room c.args.pcrs c.loop-pcr.pcr c.loop-pcr.place (length c.args.values.now) (omega arith) there c.loop-pcr.invariant.count in
-    let other = ap (λ d. bytes_eq d c.index-values-place.result) (sym c.reached-reached.ensures.value) ∙ sym c.is_same.ensures ∙ c.if-not-is_same.true in
+    let other = ap (λ d. bytes_eq d c.index-values-place.result) (sym c.reached-reached.ensures.value) ∙ sym c.is_same.ensures.value ∙ c.if-not-is_same.true in
     ap (λ d. Some (errors.Differs c.args.number c.loop-pcr.pcr d)) c.reached-reached.ensures.value
     ∙ ap (differing c.args.number) (differ_here held c.args.pcrs c.loop-pcr.pcr c.loop-pcr.place c.args.values.now c.index-values-place.result whole (omega arith) there room c.index-values-place.is other c.loop-pcr.invariant.rest)
 
@@ -35,7 +35,7 @@ loop-pcr-preserved c =
       | then-is_in_mask+else-not-is_same w ↦
           let there = sym w.if-is_in_mask.true ∙ c.is_in_mask.ensures in
           let room = has_room c.args.pcrs c.loop-pcr.pcr c.loop-pcr.place total (omega arith) there c.loop-pcr.invariant.count in
-          let same = ap (λ d. bytes_eq d w.index-values-place.result) (sym w.reached-reached.ensures.value) ∙ sym w.is_same.ensures ∙ w.if-not-is_same.false in
+          let same = ap (λ d. bytes_eq d w.index-values-place.result) (sym w.reached-reached.ensures.value) ∙ sym w.is_same.ensures.value ∙ w.if-not-is_same.false in
           record {
             count = subst (λ k. k + length (pcrs_from c.args.pcrs (c.loop-pcr.pcr + 1)) ≡ total) (sym w.place-is) (counted_in c.args.pcrs c.loop-pcr.pcr c.loop-pcr.place total (omega arith) there c.loop-pcr.invariant.count);
             rest = subst (λ k. first_differing held (pcrs_from c.args.pcrs (c.loop-pcr.pcr + 1)) (drop k c.args.values.now) ≡ whole) (sym w.place-is)

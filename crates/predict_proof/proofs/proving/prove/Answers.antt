@@ -1,87 +1,55 @@
-use Rattle.std.proofs.Common.{◌≡◌, ◌≤◌, ℕ, List, Result, None, length, take, sym, ap, ◌∙◌, subst, arith}
+use Rattle.std.proofs.Common.{◌≡◌, ℕ, List, length, map, sym, ap, ◌∙◌, subst, Ok, arith}
 use Rattle.std.specs.List.{All}
-use Rattle.std.specs.Result.{result_map_both}
-use Rattle.std.proofs.lemmas.Result.{IfOk-weaker}
-use Rattle.component_tree.specs.declared.tree.Component.{Component}
+use Rattle.std.proofs.lemmas.List.{length-map}
 use Rattle.component_tree.specs.PlainTree.{plain}
-use Rattle.policy_digest.specs.Mask.{pcrs_of}
-use Rattle.policy_digest.specs.Table.{values_eq}
-use Rattle.predictor.specs.declared.error.ForeseeError.{ForeseeError}
-use Rattle.predictor.specs.Cuts.{inside_of}
-use Rattle.predictor.specs.States.{states_after}
-use Rattle.predictor.specs.Foreseen.{Answers, foreseen_by, foreseen_joint, lacking_in_any, Refuses}
-use Rattle.predictor.proofs.MaskLists.{some_listed}
-use Rattle.predictor.proofs.Repeats.{values_tell}
-use Rattle.predictor.proofs.WindowLemmas.{joint_lacks, joint_has}
+use Rattle.predictor.specs.declared.reached.Reached.{Reached}
+use Rattle.predictor.proofs.Growth.{map-map}
 use Rattle.predict_proof.specs.Proved.{HasShape, Proved}
 use Rattle.predict_proof.specs.declared.proof.Proof.{Proof}
-use Rattle.predict_proof.specs.Proving.{all_proofs, values_in, IsFirstOf}
-use Rattle.predict_proof.proofs.Firsts.{firsts_kept}
-use Rattle.predict_proof.proofs.AllProved.{are_first, first_of_mask, first_proved, first_shaped}
-use Rattle.predict_proof.proofs.Lines.{result_lines}
+use Rattle.predict_proof.specs.Proving.{all_proofs, proof_of, values_in, IsFirstOf}
+use Rattle.predict_proof.proofs.AllProved.{first_of_all, first_of_mask, first_proved, first_shaped}
+use Rattle.predict_proof.proofs.Lines.{all_lines}
 use Rattle.predict_proof.proofs.proving.prove.Goals as goal
 
-pub returns-in-Some-clause-states : goal.returns-in-Some-clause-states
-returns-in-Some-clause-states c =
+pub returns-in_ok-proofs_of-in-Ok-clause-states : goal.returns-in_ok-proofs_of-in-Ok-clause-states
+returns-in_ok-proofs_of-in-Ok-clause-states c =
+    let states : List Reached = c.in-Ok.states in
+    let made : c.in_ok-proofs_of-in-Ok.field-0 ≡ map (proof_of c.args.pcrs) states = c.in_ok-proofs_of-in-Ok.ensures ∙ ap (map (proof_of c.args.pcrs)) c.as_slice.ensures in
+    c.in-Ok.ensures.states ∙ ap Ok (sym (ap values_in made ∙ map-map (proof_of c.args.pcrs) (λ (q : Proof). q.values) states))
+
+pub returns-in_ok-proofs_of-in-Ok-clause-proofs : goal.returns-in_ok-proofs_of-in-Ok-clause-proofs
+returns-in_ok-proofs_of-in-Ok-clause-proofs c =
+    c.in_ok-proofs_of-in-Ok.ensures ∙ ap (map (proof_of c.args.pcrs)) (c.as_slice.ensures ∙ c.in-Ok.ensures.reached)
+
+pub returns-in_ok-proofs_of-in-Ok-clause-first : goal.returns-in_ok-proofs_of-in-Ok-clause-first
+returns-in_ok-proofs_of-in-Ok-clause-first c =
     let tree = plain c.args.tree.now.components in
-    let listed : c.as_slice.result.now ≡ pcrs_of c.args.pcrs = c.as_slice.ensures ∙ c.in_ok-list.ensures.value in
-    subst (λ (e : ForeseeError). Refuses e (foreseen_joint c.args.bank c.args.locality (pcrs_of c.args.pcrs) c.args.window.now tree)) (sym c.no_digest.ensures)
-    (joint_lacks c.args.bank c.args.locality (pcrs_of c.args.pcrs) c.args.window.now tree c.components_inside-components.result.now c.in-Some.at c.components_inside-components.ensures.value
-    (c.in-Some.ensures ∙ ap (λ ps. lacking_in_any c.args.bank ps (plain c.components_inside-components.result.now)) listed))
+    subst (All (IsFirstOf (all_proofs c.args.bank c.args.locality c.args.pcrs c.args.window.now tree))) (sym (returns-in_ok-proofs_of-in-Ok-clause-proofs c))
+    (first_of_all c.args.bank c.args.locality c.args.pcrs c.args.window.now tree)
 
-pub spread-requires-clause-some : goal.spread-requires-clause-some
-spread-requires-clause-some c =
-    subst (λ (ps : List ℕ). 1 ≤ length ps) (sym (c.as_slice-2.ensures ∙ c.in_ok-list.ensures.value)) (some_listed c.args.pcrs c.requires.some c.requires.in_range)
+pub returns-in_ok-proofs_of-in-Ok-clause-few : goal.returns-in_ok-proofs_of-in-Ok-clause-few
+returns-in_ok-proofs_of-in-Ok-clause-few c =
+    let states : List Reached = c.in-Ok.states in
+    let made : c.in_ok-proofs_of-in-Ok.field-0 ≡ map (proof_of c.args.pcrs) states = c.in_ok-proofs_of-in-Ok.ensures ∙ ap (map (proof_of c.args.pcrs)) c.as_slice.ensures in
+    omega (arith, ap length made, length-map states (proof_of c.args.pcrs), c.in-Ok.ensures.counted.1)
 
-pub returns-clause-states : goal.returns-clause-states
-returns-clause-states c =
+pub returns-in_ok-proofs_of-in-Ok-clause-of_mask : goal.returns-in_ok-proofs_of-in-Ok-clause-of_mask
+returns-in_ok-proofs_of-in-Ok-clause-of_mask c =
+    subst (All (λ (q : Proof). q.pcrs ≡ c.args.pcrs)) (sym (returns-in_ok-proofs_of-in-Ok-clause-proofs c))
+    (first_of_mask c.args.bank c.args.locality c.args.pcrs c.args.window.now (plain c.args.tree.now.components))
+
+pub returns-in_ok-proofs_of-in-Ok-clause-shaped : goal.returns-in_ok-proofs_of-in-Ok-clause-shaped
+returns-in_ok-proofs_of-in-Ok-clause-shaped c =
+    subst (All (HasShape c.args.bank)) (sym (returns-in_ok-proofs_of-in-Ok-clause-proofs c))
+    (first_shaped c.args.bank c.args.locality c.args.pcrs c.args.window.now (plain c.args.tree.now.components) c.requires.some c.requires.in_range)
+
+pub returns-in_ok-proofs_of-in-Ok-clause-proved : goal.returns-in_ok-proofs_of-in-Ok-clause-proved
+returns-in_ok-proofs_of-in-Ok-clause-proved c =
     let tree = plain c.args.tree.now.components in
-    let inside : List Component = c.components_inside-components.result.now in
-    let listed : c.as_slice.result.now ≡ pcrs_of c.args.pcrs = c.as_slice.ensures ∙ c.in_ok-list.ensures.value in
-    let listed_2 : c.as_slice-2.result.now ≡ pcrs_of c.args.pcrs = c.as_slice-2.ensures ∙ c.in_ok-list.ensures.value in
-    let states : Result (List (List (List ℕ))) ForeseeError = result_map_both {E = ForeseeError} {D = ForeseeError} values_in (λ e. e) c.spread.result in
-    joint_has c.args.bank c.args.locality (pcrs_of c.args.pcrs) c.args.window.now tree inside c.inside-first.result states
-    c.components_inside-components.ensures.value (c.in_default.ensures ∙ ap (λ ps. lacking_in_any c.args.bank ps (plain inside)) listed) c.inside-first.ensures
-    (subst (λ (ps : List ℕ). Answers states (foreseen_by values_eq (λ k. states_after c.args.bank c.args.locality ps (take k (plain inside))) c.inside-first.result (length inside) None)) listed_2 c.spread.ensures.states)
+    subst (All (Proved c.args.bank c.args.locality c.args.window.now tree)) (sym (returns-in_ok-proofs_of-in-Ok-clause-proofs c))
+    (first_proved c.args.bank c.args.locality c.args.pcrs c.args.window.now tree c.requires.in_range c.in-Ok.ensures.whole)
 
-pub returns-clause-shaped : goal.returns-clause-shaped
-returns-clause-shaped c =
-    let tree = plain c.args.tree.now.components in
-    let listed : c.as_slice-2.result.now ≡ pcrs_of c.args.pcrs = c.as_slice-2.ensures ∙ c.in_ok-list.ensures.value in
-    IfOk-weaker c.spread.result _ _
-    (λ list h. subst (All (HasShape c.args.bank)) (sym (are_first c.args.bank c.args.locality c.args.pcrs c.args.window.now tree c.components_inside-components.result.now c.inside-first.result c.as_slice-2.result.now list c.components_inside-components.ensures.value c.inside-first.ensures listed h))
-    (first_shaped c.args.bank c.args.locality c.args.pcrs c.args.window.now tree c.requires.some c.requires.in_range)) c.spread.ensures.proofs
-
-pub returns-clause-of_mask : goal.returns-clause-of_mask
-returns-clause-of_mask c =
-    let tree = plain c.args.tree.now.components in
-    let listed : c.as_slice-2.result.now ≡ pcrs_of c.args.pcrs = c.as_slice-2.ensures ∙ c.in_ok-list.ensures.value in
-    IfOk-weaker c.spread.result _ _
-    (λ list h. subst (All (λ (q : Proof). q.pcrs ≡ c.args.pcrs)) (sym (are_first c.args.bank c.args.locality c.args.pcrs c.args.window.now tree c.components_inside-components.result.now c.inside-first.result c.as_slice-2.result.now list c.components_inside-components.ensures.value c.inside-first.ensures listed h))
-    (first_of_mask c.args.bank c.args.locality c.args.pcrs c.args.window.now tree)) c.spread.ensures.proofs
-
-pub returns-clause-proved : goal.returns-clause-proved
-returns-clause-proved c =
-    let tree = plain c.args.tree.now.components in
-    let inside : List Component = c.components_inside-components.result.now in
-    let listed : c.as_slice.result.now ≡ pcrs_of c.args.pcrs = c.as_slice.ensures ∙ c.in_ok-list.ensures.value in
-    let listed_2 : c.as_slice-2.result.now ≡ pcrs_of c.args.pcrs = c.as_slice-2.ensures ∙ c.in_ok-list.ensures.value in
-    let none : lacking_in_any c.args.bank (pcrs_of c.args.pcrs) (inside_of c.args.window.now.end tree) ≡ None =
-    sym (c.in_default.ensures ∙ ap (λ ps. lacking_in_any c.args.bank ps (plain inside)) listed ∙ ap (lacking_in_any c.args.bank (pcrs_of c.args.pcrs)) c.components_inside-components.ensures.value) in
-    IfOk-weaker c.spread.result _ _
-    (λ list h. subst (All (Proved c.args.bank c.args.locality c.args.window.now tree)) (sym (are_first c.args.bank c.args.locality c.args.pcrs c.args.window.now tree inside c.inside-first.result c.as_slice-2.result.now list c.components_inside-components.ensures.value c.inside-first.ensures listed_2 h))
-    (first_proved c.args.bank c.args.locality c.args.pcrs c.args.window.now tree c.requires.in_range none)) c.spread.ensures.proofs
-
-pub returns-clause-first : goal.returns-clause-first
-returns-clause-first c =
-    let tree = plain c.args.tree.now.components in
-    let listed : c.as_slice-2.result.now ≡ pcrs_of c.args.pcrs = c.as_slice-2.ensures ∙ c.in_ok-list.ensures.value in
-    let all = all_proofs c.args.bank c.args.locality c.args.pcrs c.args.window.now tree in
-    IfOk-weaker c.spread.result _ _
-    (λ list h. subst (All (IsFirstOf all)) (sym (are_first c.args.bank c.args.locality c.args.pcrs c.args.window.now tree c.components_inside-components.result.now c.inside-first.result c.as_slice-2.result.now list c.components_inside-components.ensures.value c.inside-first.ensures listed h))
-    (firsts_kept (λ (q : Proof). q.values) values_eq values_tell all)) c.spread.ensures.proofs
-
-pub returns-clause-lines : goal.returns-clause-lines
-returns-clause-lines c =
-    result_lines c.args.bank c.args.locality c.args.window.now (plain c.args.tree.now.components) c.components_inside-components.result.now c.components_inside-components.ensures.value c.components_inside-components.ensures.few (omega arith)
-    c.spread.result (returns-clause-shaped c) (returns-clause-proved c)
+pub returns-in_ok-proofs_of-in-Ok-clause-lines : goal.returns-in_ok-proofs_of-in-Ok-clause-lines
+returns-in_ok-proofs_of-in-Ok-clause-lines c =
+    all_lines c.args.bank c.args.locality c.args.window.now c.args.tree.now.components c.args.tree.now.ascending c.args.tree.now.few_components (omega arith) c.in_ok-proofs_of-in-Ok.field-0
+    (returns-in_ok-proofs_of-in-Ok-clause-shaped c) (returns-in_ok-proofs_of-in-Ok-clause-proved c)

@@ -1,7 +1,7 @@
 use Rattle.std.proofs.Common.{◌≡◌, ◌+◌, length, sym, ap, ◌∙◌, subst, arith}
 use Rattle.std.proofs.lemmas.Bool.{eqb-false}
 use Rattle.std.proofs.lemmas.List.{length_push}
-use Rattle.tpm_commands.specs.Parts.{parts_of}
+use Rattle.pl_text.specs.Parts.{parts_of}
 use Rattle.predict_proof.specs.ProofsIn.{proofs_from}
 use Rattle.predict_proof.specs.ReadsAs.{LinesBefore}
 use Rattle.predict_proof.proofs.FileLemmas.{one_before, bad_unended, bad_unread}

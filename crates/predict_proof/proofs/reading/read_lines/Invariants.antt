@@ -1,5 +1,5 @@
 use Rattle.std.proofs.Common.{◌≡◌, length}
-use Rattle.tpm_commands.specs.Parts.{parts_of}
+use Rattle.pl_text.specs.Parts.{parts_of}
 use Rattle.predict_proof.specs.ProofsIn.{proofs_from}
 use Rattle.predict_proof.specs.ReadsAs.{LinesBefore}
 use Rattle.predict_proof.proofs.ProofsRead.{prefixed}

@@ -1,6 +1,6 @@
 use Rattle.std.proofs.Common.{◌≡◌}
-use Rattle.tpm_commands.specs.Left.{left_in}
-use Rattle.tpm_commands.specs.Parts.{parts_behind}
+use Rattle.pl_text.specs.Left.{left_in}
+use Rattle.pl_text.specs.Parts.{parts_behind}
 use Rattle.predict_proof.specs.Words.{choice_of, numbers_from}
 use Rattle.predict_proof.proofs.values.read_choice.Given as goal
 

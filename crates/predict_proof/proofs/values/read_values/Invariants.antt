@@ -1,6 +1,6 @@
 use Rattle.std.proofs.Common.{◌≡◌, []}
-use Rattle.tpm_commands.specs.Left.{left_in}
-use Rattle.tpm_commands.specs.Parts.{parts_behind, parts_of}
+use Rattle.pl_text.specs.Left.{left_in}
+use Rattle.pl_text.specs.Parts.{parts_behind, parts_of}
 use Rattle.predict_proof.specs.Words.{values_from}
 use Rattle.predict_proof.proofs.values.read_values.Given as goal
 

@@ -1,6 +1,6 @@
 use Rattle.std.proofs.Common.{◌≡◌, ◌∙◌}
 use Rattle.policy_digest.specs.Mask.{pcrs_of}
-use Rattle.predictor.proofs.MaskLists.{some_listed}
+use Rattle.policy_digest.proofs.MaskLists.{some_listed}
 use Rattle.predictor.proofs.Sound.{joint_counted}
 use Rattle.predictor.proofs.foreseeing.foresee_joint.Goals as goal
 

@@ -1,5 +1,5 @@
 use Rattle.std.proofs.Common.{◌≡◌, take}
-use Rattle.predictor.specs.Protected.{mask_of}
+use Rattle.policy_digest.specs.Mask.{mask_of}
 use Rattle.predictor.proofs.protecting.mask_with.Given as goal
 
 abbrev pub invariant-loop-pcr : goal.invariant-loop-pcr
