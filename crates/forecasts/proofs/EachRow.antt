@@ -1,31 +1,17 @@
 -- The rows of PCRs that are taken each by itself.
-use Rattle.std.proofs.Common.{◌≡◌, ℕ, List, [], ◌∷◌, Option, Some, None, Result, Ok, Err, refl, sym, ap, ◌∙◌, subst, inl, inr}
+use Rattle.std.proofs.Common.{◌≡◌, ℕ, List, [], ◌∷◌, Option, Some, None, Result, Ok, refl, sym, ap, ◌∙◌, subst, inl, inr}
 use Rattle.std.specs.List.{Contains}
 use Rattle.policy_digest.specs.declared.table.Row.{Row}
-use Rattle.predictor.specs.declared.error.ForeseeError.{ForeseeError}
 use Rattle.predictor.specs.declared.error.ProtectError.{ProtectError}
 use Rattle.predictor.specs.declared.protection.Cause.{Cause}
 use Rattle.predictor.specs.declared.protection.LeftOut.{LeftOut}
-use Rattle.predictor.specs.Protected.{◌>>=◌, row_of, row_or_cause, rows_of, where_replayed, refused_for}
+use Rattle.predictor.specs.Protected.{◌>>=◌, row_of, row_or_cause, rows_of, where_replayed}
+use Rattle.predictor.proofs.Valid.{bind_ok, ok_is}
 use Rattle.predict_proof.proofs.Members.{first_in, later_in, first_or_later}
 use Rattle.forecasts.proofs.Found.{nothing_in}
 
 abbrev protected : Result (Option Cause) ProtectError
 protected = Ok None
-
-abbrev done : {A : Type 0} → A → Result A ProtectError
-done x = Ok x
-
-pub ok_is : {A : Type 0} (x y : A) → done x ≡ done y → x ≡ y
-ok_is x y e = cc
-
-pub bind_ok : {A B : Type 0} (r : Result A ProtectError) (g : A → Result B ProtectError) (y : B) → (r >>= g) ≡ Ok y → (x : A) × (r ≡ Ok x) × (g x ≡ Ok y)
-bind_ok (Ok x) g y e = (x, refl, e)
-bind_ok (Err d) g y e = absurd cc
-
-pub refused_ok : {A : Type 0} (p : ℕ) (r : Result A ForeseeError) (x : A) → refused_for p r ≡ Ok x → r ≡ Ok x
-refused_ok p (Ok y) x e = let is : y ≡ x = ok_is y x e in ap Ok is
-refused_ok p (Err error) x e = absurd cc
 
 module _ (standing : ℕ → Result (Option Cause) ProtectError) (values : ℕ → Result (List (List ℕ)) ProtectError) where
   -- the row is that of a protected one of these PCRs

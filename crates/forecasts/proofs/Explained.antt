@@ -4,7 +4,7 @@ use Rattle.std.specs.Prelude.{slice_index_or}
 use Rattle.std.specs.List.{Contains}
 use Rattle.std.specs.Str.{bytes_eq}
 use Rattle.hash_bank.specs.declared.bank.Bank.{Bank}
-use Rattle.component_tree.specs.PlainTree.{PlainComponent, plain}
+use Rattle.component_tree.specs.PlainTree.{PlainComponent}
 use Rattle.pcr_replay.specs.Measured.{measured_in, replayed_in}
 use Rattle.record_match.specs.Choices.{choices}
 use Rattle.record_match.specs.Extends.{variants_of, extends_of}
@@ -55,7 +55,7 @@ module _ (f : Forecast) (p : ℕ) where
   explaining list c = digests_eq (extends_of f.bank p (inside f) c) list
 
   abbrev standing : Result (Option Cause) ProtectError
-  standing = standing_in (plain f.components) f.window f.bank f.log f.locality f.now p
+  standing = standing_in f.components f.window f.bank f.log f.locality f.now p
 
   recognised_by : (list : List (List ℕ)) → by_recognition (recognised f.bank p (inside f) list) ≡ protected
       → (lacking_of f.bank p (inside f) ≡ None) × ((c : List ℕ) × Contains (choices (variants_of (inside f))) c × (extends_of f.bank p (inside f) c ≡ list))

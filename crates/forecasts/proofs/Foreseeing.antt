@@ -2,7 +2,6 @@
 use Rattle.std.proofs.Common.{◌≡◌, ℕ, List, [], Option, Some, None, Ok, sym, subst, inl, inr}
 use Rattle.std.specs.List.{Contains, flat_map}
 use Rattle.std.specs.Str.{bytes_eq}
-use Rattle.component_tree.specs.PlainTree.{plain}
 use Rattle.record_match.specs.Choices.{choices}
 use Rattle.record_match.specs.Extends.{variants_of}
 use Rattle.record_match.specs.Lacking.{lacking_of}
@@ -26,14 +25,14 @@ module _ (f : Forecast) (p : ℕ) where
   reach k = values_after f.bank f.locality p (before_cut f k)
 
   abbrev cuts : List ℕ
-  cuts = cuts_between (first_cut f.window (plain f.components)) (last_cut f.window (plain f.components))
+  cuts = cuts_between (first_cut f.window f.components) (last_cut f.window f.components)
 
-  is_over : (list : List (List ℕ)) → foreseen f.bank f.locality p f.window (plain f.components) ≡ Ok list → over_cuts bytes_eq reach cuts ≡ list
+  is_over : (list : List (List ℕ)) → foreseen f.bank f.locality p f.window f.components ≡ Ok list → over_cuts bytes_eq reach cuts ≡ list
   unfolding foreseen
   is_over list e =
-      given_list (lacking_of f.bank p (inside f)) (too_many_at bytes_eq reach (first_cut f.window (plain f.components)) (last_cut f.window (plain f.components))) (over_cuts bytes_eq reach cuts) list e
+      given_list (lacking_of f.bank p (inside f)) (too_many_at bytes_eq reach (first_cut f.window f.components) (last_cut f.window f.components)) (over_cuts bytes_eq reach cuts) list e
 
-  pub value_from : (list : List (List ℕ)) (value : List ℕ) → foreseen f.bank f.locality p f.window (plain f.components) ≡ Ok list → Contains list value
+  pub value_from : (list : List (List ℕ)) (value : List ℕ) → foreseen f.bank f.locality p f.window f.components ≡ Ok list → Contains list value
       → (k : ℕ) × (c : List ℕ) × IsBootState f k c × (measured_by f k c p ≡ value)
   value_from list value e h =
       let over : Contains (over_cuts bytes_eq reach cuts) value = subst (λ (l : List (List ℕ)). Contains l value) (sym (is_over list e)) h in
@@ -42,7 +41,7 @@ module _ (f : Forecast) (p : ℕ) where
       let choice = mapped_from (λ c. measured_by f cut.0 c p) (choices (variants_of (before_cut f cut.0))) value cut.2 in
       (cut.0, choice.0, record { in_window = cut.1; chosen = choice.1 }, choice.2)
 
-  pub value_in : (list : List (List ℕ)) (k : ℕ) (c : List ℕ) → foreseen f.bank f.locality p f.window (plain f.components) ≡ Ok list → IsBootState f k c → Contains list (measured_by f k c p)
+  pub value_in : (list : List (List ℕ)) (k : ℕ) (c : List ℕ) → foreseen f.bank f.locality p f.window f.components ≡ Ok list → IsBootState f k c → Contains list (measured_by f k c p)
   value_in list k c e state =
       subst (λ (l : List (List ℕ)). Contains l (measured_by f k c p)) (is_over list e)
       (distinct_in bytes_eq bytes_tell (flat_map reach cuts) (measured_by f k c p)

@@ -3,6 +3,5 @@ pub mod Explained
 pub mod Foreseeing
 pub mod EachRow
 pub mod Opened
-pub mod MaskOrder
 pub mod Together
 pub mod Tables

@@ -8,7 +8,6 @@ use Rattle.std.proofs.lemmas.Bool.{cases_eq, eq-eqb, eqb-true}
 use Rattle.std.proofs.lemmas.Nat.Bits.{bit_at-pow_same, bit_at-pow_other}
 use Rattle.hash_bank.specs.declared.banks.Banks.{Banks}
 use Rattle.hash_bank.specs.Banks.{has_bank}
-use Rattle.component_tree.specs.PlainTree.{plain}
 use Rattle.policy_digest.specs.Mask.{has_pcr, pcrs_of}
 use Rattle.policy_digest.specs.Plain.{plain_row, plain_table}
 use Rattle.policy_digest.specs.PlainTable.{PlainRow, PlainTable}
@@ -21,9 +20,8 @@ use Rattle.predictor.specs.declared.error.ProtectError.{ProtectError}
 use Rattle.predictor.specs.declared.protection.Cause.{Cause}
 use Rattle.predictor.specs.declared.protection.Protection.{Protection}
 use Rattle.predictor.proofs.Repeats.{bytes_tell}
-use Rattle.predictor.proofs.Sound.{plain_variants}
-use Rattle.predictor.proofs.Valid.{plain_valid}
-use Rattle.predict_proof.proofs.Members.{mapped_in, mapped_from}
+use Rattle.predictor.proofs.Valid.{bind_ok, ok_is, refused_ok, plain_valid}
+use Rattle.predict_proof.proofs.Members.{first_in, mapped_in, mapped_from}
 use Rattle.tpm_model.specs.Opening.{Open}
 use Rattle.tpm_model.specs.Pcrs.{pcr_of, HasValues}
 use Rattle.tpm_walks.specs.ByValues.{IsMet, IsOpenByValues}
@@ -33,7 +31,7 @@ use Rattle.forecasts.specs.Forecast.{Forecast, Holds, HoldsBy, HoldsAlone, IsPro
 use Rattle.forecasts.proofs.Found.{filter_from, all_at, all_from}
 use Rattle.forecasts.proofs.Explained.{explained, stands}
 use Rattle.forecasts.proofs.Foreseeing.{value_from, value_in}
-use Rattle.forecasts.proofs.EachRow.{AreRowsOf, bind_ok, ok_is, refused_ok, rows_are}
+use Rattle.forecasts.proofs.EachRow.{AreRowsOf, rows_are}
 
 -- ---- the mask of one PCR
 
@@ -70,16 +68,16 @@ same_first a b e = cc
 
 module _ (f : Forecast) where
   abbrev pub standing : ℕ → Result (Option Cause) ProtectError
-  standing = standing_in (plain f.components) f.window f.bank f.log f.locality f.now
+  standing = standing_in f.components f.window f.bank f.log f.locality f.now
 
   abbrev values : ℕ → Result (List (List ℕ)) ProtectError
-  values p = refused_for p (foreseen f.bank f.locality p f.window (plain f.components))
+  values p = refused_for p (foreseen f.bank f.locality p f.window f.components)
 
   record IsEachTable (p : Protection) : Type 0 where
     bank : p.table.bank ≡ f.bank
     rows : AreRowsOf standing values (pcrs_of f.asked) p.table.rows
 
-  each_table : (p : Protection) → protected_each (plain f.components) f.window (pcrs_of f.asked) f.bank f.log f.locality f.now ≡ Ok p → IsEachTable p
+  each_table : (p : Protection) → protected_each f.components f.window (pcrs_of f.asked) f.bank f.log f.locality f.now ≡ Ok p → IsEachTable p
   unfolding protected_each
   each_table p e =
       let r = bind_ok (rows_of standing values (pcrs_of f.asked)) (λ found. Ok (protection f.bank found.0 found.1)) p e in
@@ -88,7 +86,7 @@ module _ (f : Forecast) where
 
   is_each : f.joint ≡ false → (table : PlainTable) (t : TableOf f table) → IsEachTable t.protection
   is_each alone table t =
-      each_table t.protection (ap (λ b. protected_of b (plain f.components) f.window f.asked f.bank f.log f.locality f.now) (sym alone) ∙ t.given)
+      each_table t.protection (ap (λ b. protected_of b f.components f.window f.asked f.bank f.log f.locality f.now) (sym alone) ∙ t.given)
 
   in_row : (table : PlainTable) (t : TableOf f table) → IsEachTable t.protection → (p : ℕ) → IsInRow table p → IsProtected f p
   in_row table t is p i =
@@ -110,6 +108,15 @@ module _ (f : Forecast) where
   pub protects : f.joint ≡ false → (table : PlainTable) → TableOf f table → (p : ℕ) → (IsInRow table p → IsProtected f p) × (IsProtected f p → IsInRow table p)
   protects alone table t p = (in_row table t (is_each alone table t) p, has_row table t (is_each alone table t) p)
 
+  first_row : (rows : List Row) → AreRowsOf standing values (pcrs_of f.asked) rows → rows ≢ [] → (p : ℕ) × IsProtected f p
+  first_row [] are some = absurd (some refl)
+  first_row (row ∷ rows) are some = let r = are.each row (first_in row rows) in (r.pcr, record { asked = r.among; explained = explained f r.pcr r.stands })
+
+  -- where the table has a row, a PCR is protected
+  pub protects_some : f.joint ≡ false → (table : PlainTable) → TableOf f table → table.rows ≢ [] → (p : ℕ) × IsProtected f p
+  protects_some alone table t some =
+      first_row t.protection.table.rows (is_each alone table t).rows (λ none. some (ap (λ (x : PlainTable). x.rows) t.is ∙ ap (map plain_row) none))
+
   module _ (banks : Banks) (pcrs : List (List ℕ)) where
     met_by : (p : ℕ) (list : List (List ℕ)) → pcrs_of (2 ^ p) ≡ p ∷ [] → IsMet f.bank banks pcrs (row_of p list) → (v : List ℕ) × Contains list v × (pcr_of banks pcrs f.bank p ≡ Some v)
     met_by p list one met =
@@ -124,35 +131,35 @@ module _ (f : Forecast) where
       holds = ap (map (pcr_of banks pcrs f.bank)) one ∙ ap (λ (o : Option (List ℕ)). o ∷ []) is;
     }
 
-    holds_alone : (protection : Protection) → IsEachTable protection → IsOpenByValues protection.table banks pcrs → (p : ℕ) → IsProtected f p → HoldsAlone f banks pcrs p
+    holds_alone : (protection : Protection) → IsEachTable protection → IsOpenByValues protection.table banks pcrs → (p : ℕ) → IsProtected f p → HoldsAlone f (pcr_of banks pcrs f.bank) p
     holds_alone protection is by p x =
         let r = is.rows.all p x.asked (stands f p x.explained) in
         let met = all_at (IsMet protection.table.bank banks pcrs) protection.table.rows (row_of p r.list) by.met r.there in
         let v = met_by p r.list (lone f.asked p x.asked) (subst (λ b. IsMet b banks pcrs (row_of p r.list)) is.bank met) in
-        let s = value_from f p r.list v.0 (refused_ok p (foreseen f.bank f.locality p f.window (plain f.components)) r.list r.given) v.1 in
+        let s = value_from f p r.list v.0 (refused_ok p (foreseen f.bank f.locality p f.window f.components) r.list r.given) v.1 in
         record { cut = s.0; choice = s.1; state = s.2; holds = v.2 ∙ ap Some (sym s.3) }
 
-    is_open : (protection : Protection) → IsEachTable protection → has_bank banks f.bank ≡ true → ((p : ℕ) → IsProtected f p → HoldsAlone f banks pcrs p) → IsOpenByValues protection.table banks pcrs
+    is_open : (protection : Protection) → IsEachTable protection → has_bank banks f.bank ≡ true → ((p : ℕ) → IsProtected f p → HoldsAlone f (pcr_of banks pcrs f.bank) p) → IsOpenByValues protection.table banks pcrs
     is_open protection is present holds = record {
       present = ap (has_bank banks) is.bank ∙ present;
       met = all_from (IsMet protection.table.bank banks pcrs) protection.table.rows (λ row h.
           let r = is.rows.each row h in
           let now = holds r.pcr (record { asked = r.among; explained = explained f r.pcr r.stands }) in
-          let there = value_in f r.pcr r.list now.cut now.choice (refused_ok r.pcr (foreseen f.bank f.locality r.pcr f.window (plain f.components)) r.list r.given) now.state in
+          let there = value_in f r.pcr r.list now.cut now.choice (refused_ok r.pcr (foreseen f.bank f.locality r.pcr f.window f.components) r.list r.given) now.state in
           let met = meets r.pcr r.list (measured_by f now.cut now.choice r.pcr) (lone f.asked r.pcr r.among) there now.holds in
           subst (IsMet protection.table.bank banks pcrs) (sym r.is) (subst (λ b. IsMet b banks pcrs (row_of r.pcr r.list)) (sym is.bank) met));
     }
 
-    pub opens : f.joint ≡ false → HasValues banks pcrs → (table : PlainTable) → TableOf f table → Open table banks pcrs → (has_bank banks f.bank ≡ true) × Holds f banks pcrs
+    pub opens : f.joint ≡ false → HasValues banks pcrs → (table : PlainTable) → TableOf f table → Open table banks pcrs → (has_bank banks f.bank ≡ true) × Holds f (pcr_of banks pcrs f.bank)
     opens alone has table t open_now =
         let is = is_each alone table t in
         let valid : t.protection.table.rows ≢ [] → valid_table t.protection.table ≡ true =
-        plain_valid f.joint (plain f.components) f.window f.asked f.bank f.log f.locality f.now t.protection (plain_variants f.components) t.given in
+        plain_valid f.joint f.components f.window f.asked f.bank f.log f.locality f.now t.protection t.variants t.given in
         let by = by_values t.protection.table t.protection.table.rows banks pcrs refl valid has (subst (λ (x : PlainTable). Open x banks pcrs) t.is open_now) in
-        (ap (has_bank banks) (sym is.bank) ∙ by.present, subst (λ b. HoldsBy b f banks pcrs) (sym alone) (holds_alone t.protection is by))
+        (ap (has_bank banks) (sym is.bank) ∙ by.present, subst (λ b. HoldsBy b f (pcr_of banks pcrs f.bank)) (sym alone) (holds_alone t.protection is by))
 
-    pub open_where : f.joint ≡ false → HasValues banks pcrs → (table : PlainTable) → TableOf f table → (has_bank banks f.bank ≡ true) × Holds f banks pcrs → Open table banks pcrs
+    pub open_where : f.joint ≡ false → HasValues banks pcrs → (table : PlainTable) → TableOf f table → (has_bank banks f.bank ≡ true) × Holds f (pcr_of banks pcrs f.bank) → Open table banks pcrs
     open_where alone has table t now =
         let is = is_each alone table t in
-        let each : (p : ℕ) → IsProtected f p → HoldsAlone f banks pcrs p = subst (λ b. HoldsBy b f banks pcrs) alone now.1 in
+        let each : (p : ℕ) → IsProtected f p → HoldsAlone f (pcr_of banks pcrs f.bank) p = subst (λ b. HoldsBy b f (pcr_of banks pcrs f.bank)) alone now.1 in
         subst (λ (x : PlainTable). Open x banks pcrs) (sym t.is) (opens_joined t.protection.table banks pcrs has (is_open t.protection is now.0 each))

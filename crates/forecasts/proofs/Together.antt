@@ -5,8 +5,9 @@ use Rattle.std.specs.List.{Contains, AllByRecursion, flat_map, range_with_len}
 use Rattle.std.proofs.lemmas.Bool.{cases_eq, eq-eqb, ne_eqb}
 use Rattle.hash_bank.specs.declared.banks.Banks.{Banks}
 use Rattle.hash_bank.specs.Banks.{has_bank}
-use Rattle.component_tree.specs.PlainTree.{PlainComponent, plain}
-use Rattle.policy_digest.specs.Mask.{has_pcr, pcrs_of}
+use Rattle.component_tree.specs.PlainTree.{PlainComponent}
+use Rattle.policy_digest.specs.Mask.{has_pcr, mask_of, pcrs_of}
+use Rattle.policy_digest.proofs.MaskOrder.{is_in, mask_bits, listed_back, rising_asked}
 use Rattle.policy_digest.specs.Plain.{plain_row}
 use Rattle.policy_digest.specs.PlainTable.{PlainRow, PlainTable}
 use Rattle.policy_digest.specs.Table.{valid_table, values_eq}
@@ -15,15 +16,15 @@ use Rattle.record_match.specs.Choices.{choices}
 use Rattle.record_match.specs.Extends.{variants_of}
 use Rattle.predictor.specs.Cuts.{is_inside, cuts_between}
 use Rattle.predictor.specs.Foreseen.{first_cut, last_cut, foreseen_joint, over_cuts, too_many_at, lacking_in_any}
-use Rattle.predictor.specs.Protected.{◌>>=◌, kept_or_cause, kept_of, mask_of, joint_row, joint_rows, refused_for, protection, protected_joint, protected_of}
+use Rattle.predictor.specs.Protected.{◌>>=◌, kept_or_cause, kept_of, joint_row, joint_rows, refused_for, protection, protected_joint, protected_of}
 use Rattle.predictor.specs.States.{states_after}
 use Rattle.predictor.specs.declared.error.ProtectError.{ProtectError}
 use Rattle.predictor.specs.declared.protection.Cause.{Cause}
 use Rattle.predictor.specs.declared.protection.LeftOut.{LeftOut}
 use Rattle.predictor.specs.declared.protection.Protection.{Protection}
 use Rattle.predictor.proofs.Repeats.{values_tell}
-use Rattle.predictor.proofs.Sound.{HasVariants, plain_variants, cuts_in_order}
-use Rattle.predictor.proofs.Valid.{plain_valid}
+use Rattle.predictor.proofs.Sound.{HasVariants, cuts_in_order}
+use Rattle.predictor.proofs.Valid.{bind_ok, ok_is, refused_ok, kept_rises, plain_valid}
 use Rattle.predict_proof.proofs.Members.{first_in, later_in, first_or_later, mapped_in, mapped_from, joined_in, joined_from, distinct_in, range_in}
 use Rattle.tpm_model.specs.Opening.{Open}
 use Rattle.tpm_model.specs.Pcrs.{pcr_of, HasValues}
@@ -33,8 +34,6 @@ use Rattle.forecasts.specs.Forecast.{Forecast, Holds, HoldsBy, HoldTogether, IsB
 use Rattle.forecasts.proofs.Found.{nothing_in, put_all_from}
 use Rattle.forecasts.proofs.Explained.{explained, stands}
 use Rattle.forecasts.proofs.Foreseeing.{given_list}
-use Rattle.forecasts.proofs.EachRow.{bind_ok, ok_is, refused_ok}
-use Rattle.forecasts.proofs.MaskOrder.{is_in, mask_bits, listed_back, rising_asked, kept_rises}
 use Rattle.forecasts.proofs.Opened.{by_values, standing}
 
 abbrev protected : Result (Option Cause) ProtectError
@@ -133,17 +132,17 @@ module _ (f : Forecast) where
     reach k = states_after f.bank f.locality pcrs (before_cut f k)
 
     abbrev cuts : List ℕ
-    cuts = cuts_between (first_cut f.window (plain f.components)) (last_cut f.window (plain f.components))
+    cuts = cuts_between (first_cut f.window f.components) (last_cut f.window f.components)
 
     abbrev state_of : ℕ → List ℕ → List (List ℕ)
     state_of k c = map (measured_by f k c) pcrs
 
-    is_over : (list : List (List (List ℕ))) → foreseen_joint f.bank f.locality pcrs f.window (plain f.components) ≡ Ok list → over_cuts values_eq reach cuts ≡ list
+    is_over : (list : List (List (List ℕ))) → foreseen_joint f.bank f.locality pcrs f.window f.components ≡ Ok list → over_cuts values_eq reach cuts ≡ list
     unfolding foreseen_joint
     is_over list e =
-        given_list (lacking_in_any f.bank pcrs (inside f)) (too_many_at values_eq reach (first_cut f.window (plain f.components)) (last_cut f.window (plain f.components))) (over_cuts values_eq reach cuts) list e
+        given_list (lacking_in_any f.bank pcrs (inside f)) (too_many_at values_eq reach (first_cut f.window f.components) (last_cut f.window f.components)) (over_cuts values_eq reach cuts) list e
 
-    state_from : (list : List (List (List ℕ))) (state : List (List ℕ)) → foreseen_joint f.bank f.locality pcrs f.window (plain f.components) ≡ Ok list → Contains list state
+    state_from : (list : List (List (List ℕ))) (state : List (List ℕ)) → foreseen_joint f.bank f.locality pcrs f.window f.components ≡ Ok list → Contains list state
         → (k : ℕ) × (c : List ℕ) × IsBootState f k c × (state_of k c ≡ state)
     state_from list state e h =
         let over : Contains (over_cuts values_eq reach cuts) state = subst (λ (l : List (List (List ℕ))). Contains l state) (sym (is_over list e)) h in
@@ -152,7 +151,7 @@ module _ (f : Forecast) where
         let choice = mapped_from (state_of cut.0) (choices (variants_of (before_cut f cut.0))) state cut.2 in
         (cut.0, choice.0, record { in_window = cut.1; chosen = choice.1 }, choice.2)
 
-    state_in : (list : List (List (List ℕ))) (k : ℕ) (c : List ℕ) → foreseen_joint f.bank f.locality pcrs f.window (plain f.components) ≡ Ok list → IsBootState f k c → Contains list (state_of k c)
+    state_in : (list : List (List (List ℕ))) (k : ℕ) (c : List ℕ) → foreseen_joint f.bank f.locality pcrs f.window f.components ≡ Ok list → IsBootState f k c → Contains list (state_of k c)
     state_in list k c e state =
         subst (λ (l : List (List (List ℕ))). Contains l (state_of k c)) (is_over list e)
         (distinct_in values_eq values_tell (flat_map reach cuts) (state_of k c)
@@ -160,23 +159,23 @@ module _ (f : Forecast) where
         (mapped_in (state_of k) (choices (variants_of (before_cut f k))) c state.chosen)))
 
   -- some boot is foreseen
-  some_state : (k : ℕ) × (c : List ℕ) × IsBootState f k c
-  some_state =
-      let tree = plain f.components in
+  some_state : HasVariants f.components → (k : ℕ) × (c : List ℕ) × IsBootState f k c
+  some_state variants =
+      let tree = f.components in
       let first = first_cut f.window tree in
       let le = cuts_in_order f.window tree in
-      let c = a_choice (before_cut f first) (taken first (inside f) (filtered (is_inside f.window.end) tree (plain_variants f.components))) in
+      let c = a_choice (before_cut f first) (taken first (inside f) (filtered (is_inside f.window.end) tree variants)) in
       (first, c.0, record { in_window = range_in first (last_cut f.window tree + 1 - first) first (omega arith) (omega (arith, le)); chosen = c.1 })
 
   -- no row for no PCR, or one row of the states of all
   abbrev AreJointRows : List ℕ → List Row → Type 0
   AreJointRows [] rows = rows ≡ []
-  AreJointRows (p ∷ pcrs) rows = (list : List (List (List ℕ))) × (foreseen_joint f.bank f.locality (p ∷ pcrs) f.window (plain f.components) ≡ Ok list) × (rows ≡ joint_row (p ∷ pcrs) list ∷ [])
+  AreJointRows (p ∷ pcrs) rows = (list : List (List (List ℕ))) × (foreseen_joint f.bank f.locality (p ∷ pcrs) f.window f.components ≡ Ok list) × (rows ≡ joint_row (p ∷ pcrs) list ∷ [])
 
-  rows_are : (kept : List ℕ) (rows : List Row) → joint_rows (λ pcrs. foreseen_joint f.bank f.locality pcrs f.window (plain f.components)) kept ≡ Ok rows → AreJointRows kept rows
+  rows_are : (kept : List ℕ) (rows : List Row) → joint_rows (λ pcrs. foreseen_joint f.bank f.locality pcrs f.window f.components) kept ≡ Ok rows → AreJointRows kept rows
   rows_are [] rows e = sym (ok_is [] rows e)
   rows_are (p ∷ pcrs) rows e =
-      let states = foreseen_joint f.bank f.locality (p ∷ pcrs) f.window (plain f.components) in
+      let states = foreseen_joint f.bank f.locality (p ∷ pcrs) f.window f.components in
       let l = bind_ok (refused_for p states) (λ list. Ok (joint_row (p ∷ pcrs) list ∷ [])) rows e in
       (l.0, refused_ok p states l.0 l.1, sym (ok_is (joint_row (p ∷ pcrs) l.0 ∷ []) rows l.2))
 
@@ -187,10 +186,10 @@ module _ (f : Forecast) where
     back : pcrs_of (mask_of kept) ≡ kept
     rows : AreJointRows kept p.table.rows
 
-  joint_table : (p : Protection) → protected_joint (plain f.components) f.window (pcrs_of f.asked) f.bank f.log f.locality f.now ≡ Ok p → IsJointTable p
+  joint_table : (p : Protection) → protected_joint f.components f.window (pcrs_of f.asked) f.bank f.log f.locality f.now ≡ Ok p → IsJointTable p
   unfolding protected_joint
   joint_table p e =
-      let states = λ (pcrs : List ℕ). foreseen_joint f.bank f.locality pcrs f.window (plain f.components) in
+      let states = λ (pcrs : List ℕ). foreseen_joint f.bank f.locality pcrs f.window f.components in
       let k = bind_ok (kept_of (standing f) (pcrs_of f.asked)) (λ found. joint_rows states found.0 >>= λ rows. Ok (protection f.bank rows found.1)) p e in
       let r = bind_ok (joint_rows states k.0.0) (λ rows. Ok (protection f.bank rows k.0.1)) p k.2 in
       subst IsJointTable (ok_is (protection f.bank r.0 k.0.1) p r.2) (record {
@@ -203,7 +202,7 @@ module _ (f : Forecast) where
 
   is_joint : f.joint ≡ true → (table : PlainTable) (t : TableOf f table) → IsJointTable t.protection
   is_joint joint table t =
-      joint_table t.protection (ap (λ b. protected_of b (plain f.components) f.window f.asked f.bank f.log f.locality f.now) (sym joint) ∙ t.given)
+      joint_table t.protection (ap (λ b. protected_of b f.components f.window f.asked f.bank f.log f.locality f.now) (sym joint) ∙ t.given)
 
   protected_kept : (kept : List ℕ) → AreKept (standing f) (pcrs_of f.asked) kept → (p : ℕ) → Contains kept p → IsProtected f p
   protected_kept kept are p h = let r = are.each p h in record { asked = r.0; explained = explained f p r.1 }
@@ -234,13 +233,23 @@ module _ (f : Forecast) where
             record { row = r.0; listed = subst (λ (y : PlainTable). Contains y.rows r.0) (sym t.is) r.1; in_mask = r.2 },
       )
 
+  first_kept : (kept : List ℕ) (rows : List Row) → AreKept (standing f) (pcrs_of f.asked) kept → AreJointRows kept rows → rows ≢ [] → (p : ℕ) × IsProtected f p
+  first_kept [] rows are is some = absurd (some is)
+  first_kept (p ∷ pcrs) rows are is some = (p, protected_kept (p ∷ pcrs) are p (first_in p pcrs))
+
+  -- where the table has a row, a PCR is protected
+  pub protects_some_together : f.joint ≡ true → (table : PlainTable) → TableOf f table → table.rows ≢ [] → (p : ℕ) × IsProtected f p
+  protects_some_together joint table t some =
+      let is = is_joint joint table t in
+      first_kept is.kept t.protection.table.rows is.are is.rows (λ none. some (ap (λ (x : PlainTable). x.rows) t.is ∙ ap (map plain_row) none))
+
   module _ (banks : Banks) (pcrs : List (List ℕ)) where
     abbrev Hold : List ℕ → Type 0
     Hold kept = (k : ℕ) × (c : List ℕ) × IsBootState f k c × ((p : ℕ) → Contains kept p → pcr_of banks pcrs f.bank p ≡ Some (measured_by f k c p))
 
-    hold_by : (kept : List ℕ) (rows : List Row) → pcrs_of (mask_of kept) ≡ kept → AreJointRows kept rows → AllByRecursion (IsMet f.bank banks pcrs) rows → Hold kept
-    hold_by [] rows back is met = let s = some_state in (s.0, s.1, s.2, λ p h. absurd (nothing_in p h))
-    hold_by (q ∷ rest) rows back is met =
+    hold_by : HasVariants f.components → (kept : List ℕ) (rows : List Row) → pcrs_of (mask_of kept) ≡ kept → AreJointRows kept rows → AllByRecursion (IsMet f.bank banks pcrs) rows → Hold kept
+    hold_by variants [] rows back is met = let s = some_state variants in (s.0, s.1, s.2, λ p h. absurd (nothing_in p h))
+    hold_by variants (q ∷ rest) rows back is met =
         let row = joint_row (q ∷ rest) is.0 in
         let here : IsMet f.bank banks pcrs row = (subst (AllByRecursion (IsMet f.bank banks pcrs)) is.2 met).0 in
         let s = state_from (q ∷ rest) is.0 here.choice is.1 here.listed in
@@ -257,21 +266,21 @@ module _ (f : Forecast) where
         } in
         subst (AllByRecursion (IsMet f.bank banks pcrs)) (sym is.2) (here, tt)
 
-    pub opens_together : f.joint ≡ true → HasValues banks pcrs → (table : PlainTable) → TableOf f table → Open table banks pcrs → (has_bank banks f.bank ≡ true) × Holds f banks pcrs
+    pub opens_together : f.joint ≡ true → HasValues banks pcrs → (table : PlainTable) → TableOf f table → Open table banks pcrs → (has_bank banks f.bank ≡ true) × Holds f (pcr_of banks pcrs f.bank)
     opens_together joint has table t open_now =
         let is = is_joint joint table t in
         let valid : t.protection.table.rows ≢ [] → valid_table t.protection.table ≡ true =
-        plain_valid f.joint (plain f.components) f.window f.asked f.bank f.log f.locality f.now t.protection (plain_variants f.components) t.given in
+        plain_valid f.joint f.components f.window f.asked f.bank f.log f.locality f.now t.protection t.variants t.given in
         let by = by_values t.protection.table t.protection.table.rows banks pcrs refl valid has (subst (λ (x : PlainTable). Open x banks pcrs) t.is open_now) in
         let met : AllByRecursion (IsMet f.bank banks pcrs) t.protection.table.rows = subst (λ b. AllByRecursion (IsMet b banks pcrs) t.protection.table.rows) is.bank by.met in
-        let h = hold_by is.kept t.protection.table.rows is.back is.rows met in
-        let together : HoldTogether f banks pcrs = record { cut = h.0; choice = h.1; state = h.2; hold = λ p x. h.3 p (kept_protected is.kept is.are p x) } in
-        (ap (has_bank banks) (sym is.bank) ∙ by.present, subst (λ b. HoldsBy b f banks pcrs) (sym joint) together)
+        let h = hold_by t.variants is.kept t.protection.table.rows is.back is.rows met in
+        let together : HoldTogether f (pcr_of banks pcrs f.bank) = record { cut = h.0; choice = h.1; state = h.2; hold = λ p x. h.3 p (kept_protected is.kept is.are p x) } in
+        (ap (has_bank banks) (sym is.bank) ∙ by.present, subst (λ b. HoldsBy b f (pcr_of banks pcrs f.bank)) (sym joint) together)
 
-    pub open_together : f.joint ≡ true → HasValues banks pcrs → (table : PlainTable) → TableOf f table → (has_bank banks f.bank ≡ true) × Holds f banks pcrs → Open table banks pcrs
+    pub open_together : f.joint ≡ true → HasValues banks pcrs → (table : PlainTable) → TableOf f table → (has_bank banks f.bank ≡ true) × Holds f (pcr_of banks pcrs f.bank) → Open table banks pcrs
     open_together joint has table t now =
         let is = is_joint joint table t in
-        let h : HoldTogether f banks pcrs = subst (λ b. HoldsBy b f banks pcrs) joint now.1 in
+        let h : HoldTogether f (pcr_of banks pcrs f.bank) = subst (λ b. HoldsBy b f (pcr_of banks pcrs f.bank)) joint now.1 in
         let met = met_where is.kept t.protection.table.rows is.back is.rows (h.cut, h.choice, h.state, λ p at. h.hold p (protected_kept is.kept is.are p at)) in
         let by : IsOpenByValues t.protection.table banks pcrs = record { present = ap (has_bank banks) is.bank ∙ now.0; met = subst (λ b. AllByRecursion (IsMet b banks pcrs) t.protection.table.rows) (sym is.bank) met } in
         subst (λ (x : PlainTable). Open x banks pcrs) (sym t.is) (opens_joined t.protection.table banks pcrs has by)
