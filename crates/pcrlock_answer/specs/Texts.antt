@@ -3,11 +3,10 @@
 use Rattle.std.specs.Prelude.{ℕ, ◌==◌, Bool, true, false, if◌then◌else◌, List, [], ◌∷◌, ◌++◌, codes, length, map, Option, None, Some}
 use Rattle.std.specs.Char.{is_ascii_control}
 use Rattle.std.specs.Fmt.{decimal}
-use Rattle.std.specs.Int.{to_be_bytes, w32}
 use Rattle.hex.specs.Hex.{encode_lower}
 use Rattle.hash_bank.specs.Hash.{name_in}
 use Rattle.policy_digest.specs.Mask.{pcrs_of}
-use Rattle.pcrlock_answer.specs.Joined.{mask_text}
+use Rattle.pl_text.specs.Texts.{handle_text, mask_text}
 use Rattle.pcrlock_answer.specs.declared.place.Place.{Place}
 use Rattle.pcrlock_answer.specs.declared.place.Place.TheVariants.{At, Json, Records, BadName, Rule}
 use Rattle.pcrlock_answer.specs.declared.answer.Answer.{Answer}
@@ -16,10 +15,6 @@ use Rattle.pcrlock_answer.specs.declared.answer.Answer.TheVariants.{NotForeseen,
 -- the line feed at the end of each line
 abbrev pub line_end : List ℕ
 line_end = 10 ∷ []
-
--- a handle as eight digits
-abbrev pub handle_text : ℕ → List ℕ
-handle_text handle = encode_lower (to_be_bytes w32 handle)
 
 -- the handle of the sealed object
 unfoldable pub enrolled_text : ℕ → List ℕ

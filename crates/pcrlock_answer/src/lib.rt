@@ -6,15 +6,13 @@
 #![tactic(auto)]
 
 mod answer;
-mod pcrs;
 mod place;
 mod refusals;
 mod texts;
 
 pub use answer::Answer;
-pub use pcrs::{pcrs_in, write_pcrs};
 pub use place::Place;
-pub use refusals::{limit, malformed, malformed_at, no_such_file};
+pub use refusals::{limit, malformed, malformed_at, no_policy, no_such_file};
 pub use texts::{
     answer_line, checked_line, enrolled_line, key_line, locked_line, pin_line, proved_line,
     records_line, status_line, unlocked_line,

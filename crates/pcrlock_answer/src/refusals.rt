@@ -35,3 +35,10 @@ pub fn no_such_file(alloc: Global, path: &str) -> Result<Answer, Memory>
 {
     Ok(Answer::NoSuchFile(Name::from_text(alloc, path)?))
 }
+
+/// No policy file stands at the path.
+pub fn no_policy(alloc: Global, path: &str) -> Result<Answer, Memory>
+    ensures { IfOk result (λ answer. answer ≡ Answer.NoPolicy path.now) }
+{
+    Ok(Answer::NoPolicy(Name::from_text(alloc, path)?))
+}

@@ -1,10 +1,12 @@
 ghost use Rattle.std.specs.Prelude.{◌≡◌, IfOk, string_bytes};
-ghost use Rattle.pcrlock_answer.specs.Texts.{answer_text, answer_words, checked_text, enrolled_text, handle_text, key_text, locked_text, pin_text, proved_text, records_text, shown, status_text, unlocked_text, unmet_text};
+ghost use Rattle.pl_text.specs.Texts.{handle_text};
+ghost use Rattle.pcrlock_answer.specs.Texts.{answer_text, answer_words, checked_text, enrolled_text, key_text, locked_text, pin_text, proved_text, records_text, shown, status_text, unlocked_text, unmet_text};
 
 use crate::answer::Answer;
-use crate::pcrs::{pcrs_in, write_pcrs};
 use hash_bank::Digest;
 use pl_base::{Memory, Small};
+use pl_text::write_numbers;
+use policy_digest::pcrs_in;
 use std::alloc::Global;
 use std::fmt::Write;
 
@@ -204,7 +206,7 @@ fn unmet_words(alloc: Global, mask: u32, now: &Digest) -> Result<String, Memory>
         [pcr] => write!(line, "not foreseen: pcr {pcr} holds {now}")?,
         several => {
             write!(line, "not foreseen: pcrs ")?;
-            write_pcrs(&mut line, several)?;
+            write_numbers(&mut line, several)?;
             write!(line, " hold {now}")?
         }
     }

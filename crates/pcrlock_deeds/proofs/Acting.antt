@@ -3,7 +3,9 @@ use Rattle.std.proofs.Common.{◌≡◌, ℕ, List, [], ◌∷◌, inl, inr, ref
 use Rattle.std.specs.Prelude.{Option}
 use Rattle.pl_base.specs.FileMap.{FileMap}
 use Rattle.tpm_model.specs.Events.{Clean}
-use Rattle.tpm_model.specs.World.{AreHashed, World}
+use Rattle.hash_bank.specs.HashedString.{HashedString}
+use Rattle.tpm_model.specs.World.{AreHashed, World, hashed_world}
+use Rattle.tpm_model.proofs.Ties.{all_hashed}
 use Rattle.tpm_device.specs.Stored.{Stored, Holds, TooLarge, Malformed, BadRule}
 use Rattle.tpm_worlds.specs.EventLists.{Safe}
 use Rattle.tpm_worlds.proofs.TrailReads.{GrowsAll}
@@ -14,12 +16,12 @@ use Rattle.pcrlock_line.specs.Outcome.{Ending, Outcome}
 use Rattle.pcrlock_line.specs.Stopped.{StandsAmong, StandsAt}
 use Rattle.pcrlock_line.specs.Worlds.{by_state}
 use Rattle.pcrlock_line.proofs.Devices.{stands_live, stops_first, stops_last}
-use Rattle.pcrlock_deeds.specs.Acts.{Act, FileStep, HoldsAt, IsDone, IsSoundAct, IsSoundOn, Removed, Written, act_outcome, act_stages, act_world, changed_machine, changed_stops, changed_world, changes, changing, filing_of, says, stages_on, stepped, works}
+use Rattle.pcrlock_deeds.specs.Acts.{Act, FileStep, HoldsAt, IsDone, IsSoundAct, IsSoundOn, Removed, Written, act_outcome, act_stages, act_world, changed_machine, changed_stops, changed_world, changes, changing, filing_of, reckons, says, stages_on, stepped_files, with_files, works}
 use Rattle.pcrlock_deeds.specs.Deed.{Deed, keeps}
 use Rattle.pcrlock_deeds.specs.Doings.{after, outcome, stops, world}
 use Rattle.pcrlock_deeds.specs.Sound.{FileRule, IsTie, StandsTied}
 use Rattle.pcrlock_deeds.specs.Steps.{filing_world, removed_live, written_live}
-use Rattle.pcrlock_deeds.proofs.Growing.{deed_grows, deed_hashed, grows_filing}
+use Rattle.pcrlock_deeds.proofs.Growing.{deed_grows, deed_hashed, grows_filing, grows_hashed}
 use Rattle.pcrlock_deeds.proofs.Keeping.{deed_kept}
 use Rattle.pcrlock_deeds.proofs.Standing.{deed_first, deed_last, deed_stopped}
 
@@ -47,6 +49,7 @@ changed_grows (step ∷ steps) w =
 
 pub act_grows : (act : Act) (m : Machine) (w : World) → GrowsAll w (act_world act m w)
 act_grows (says last) m w = grows_filing keeps w
+act_grows (reckons strings last) m w = grows_hashed strings w
 act_grows (changes steps last) m w = changed_grows steps w
 act_grows (works deed) m w = by m.device
   where
@@ -58,6 +61,7 @@ act_grows (works deed) m w = by m.device
 
 pub act_hashed : (act : Act) (state : List ℕ) (m : Machine) (w : World) → AreHashed (act_world act m w) (act_outcome act state m).hashed
 act_hashed (says last) state m w = λ x k. absurd (omega (arith, k.1))
+act_hashed (reckons strings last) state m w = all_hashed w strings
 act_hashed (changes steps last) state m w = λ x k. absurd (omega (arith, k.1))
 act_hashed (works deed) state m w = by m.device
   where
@@ -71,6 +75,7 @@ module _ (held : Option FileMap) (kept : Option Stored) where
   -- what stands before the act stands among its stops
   pub act_first : (act : Act) (state : List ℕ) (m : Machine) → StandsAt held kept m → StandsAmong held kept (act_outcome act state m).stops
   act_first (says last) state m at = inl at
+  act_first (reckons strings last) state m at = inl at
   act_first (changes [] last) state m at = inl at
   act_first (changes (step ∷ steps) last) state m at = inl at
   act_first (works deed) state m at =
@@ -79,11 +84,12 @@ module _ (held : Option FileMap) (kept : Option Stored) where
 
   changed_last : (steps : List FileStep) (m : Machine) → StandsAt held kept (changed_machine steps m) → StandsAmong held kept (changed_stops steps m)
   changed_last [] m at = inl at
-  changed_last (step ∷ steps) m at = inr (changed_last steps (stepped step m) at)
+  changed_last (step ∷ steps) m at = inr (changed_last steps (with_files m (stepped_files step m.files)) at)
 
   -- and so does what stands after it
   pub act_last : (act : Act) (state : List ℕ) (m : Machine) → StandsAt held kept (act_outcome act state m).after → StandsAmong held kept (act_outcome act state m).stops
   act_last (says last) state m at = inl at
+  act_last (reckons strings last) state m at = inl at
   act_last (changes steps last) state m at = changed_last steps m at
   act_last (works deed) state m at =
       stops_last held kept state m (outcome deed) (λ s e h. deed_last held kept deed (record { files = m.files; state = s; draws = m.draws }) h) at
@@ -112,10 +118,19 @@ module _ (T : Live → World → Type 0) (Files : FileRule) (laws : IsTie T File
   worked_kept deed state files (Malformed place) words w sound clean safe tie = absurd tie
   worked_kept deed state files (BadRule rule) words w sound clean safe tie = absurd tie
 
+  reckoned_kept : (strings : List HashedString) (files : FileMap) (device : Stored) (words : List (List ℕ)) (w : World)
+      → (let m : Machine = record { files = files; device = device; draws = words } in
+      HoldsAt T m w → HoldsAt T m (hashed_world strings w))
+  reckoned_kept strings files (Holds s) words w tie = laws.hashed strings (record { files = files; state = s; draws = words }) w tie
+  reckoned_kept strings files (TooLarge size) words w tie = absurd tie
+  reckoned_kept strings files (Malformed place) words w tie = absurd tie
+  reckoned_kept strings files (BadRule rule) words w tie = absurd tie
+
   -- a sound act keeps the tie
   pub act_kept : (act : Act) (state : List ℕ) (m : Machine) (w : World) → IsSoundAct Files act m w → Clean (act_world act m w) → Safe (act_world act m w)
       → HoldsAt T m w → HoldsAt T (act_outcome act state m).after (act_world act m w)
   act_kept (says last) state m w sound clean safe tie = tie
+  act_kept (reckons strings last) state m w sound clean safe tie = reckoned_kept strings m.files m.device m.draws w tie
   act_kept (changes steps last) state m w sound clean safe tie = changed_kept steps last m.files m.device m.draws w sound clean safe tie
   act_kept (works deed) state m w sound clean safe tie = worked_kept deed state m.files m.device m.draws w sound clean safe tie
 
@@ -158,10 +173,20 @@ module _ (T : Live → World → Type 0) (Files : FileRule) (laws : IsTie T File
     worked_stopped deed state files (Malformed place) words w sound clean safe tie stands = absurd tie
     worked_stopped deed state files (BadRule rule) words w sound clean safe tie stands = absurd tie
 
+    reckoned_stopped : (strings : List HashedString) (last : Ending) (files : FileMap) (device : Stored) (words : List (List ℕ)) (w : World)
+        → (let m : Machine = record { files = files; device = device; draws = words } in
+        HoldsAt T m w → StandsAmong held kept (m ∷ []) → StandsTied T held kept (stages_on (reckons strings last) device m w))
+    reckoned_stopped strings last files (Holds s) words w tie stands =
+        said_stopped last files (Holds s) words (hashed_world strings w) (laws.hashed strings (record { files = files; state = s; draws = words }) w tie) stands
+    reckoned_stopped strings last files (TooLarge size) words w tie stands = absurd tie
+    reckoned_stopped strings last files (Malformed place) words w tie stands = absurd tie
+    reckoned_stopped strings last files (BadRule rule) words w tie stands = absurd tie
+
     -- after a stop of a sound act one of its stages stands, and it is tied
     pub act_stopped : (act : Act) (state : List ℕ) (m : Machine) (w : World) → IsSoundAct Files act m w → Clean (act_world act m w) → Safe (act_world act m w)
         → HoldsAt T m w → StandsAmong held kept (act_outcome act state m).stops → StandsTied T held kept (act_stages act m w)
     act_stopped (says last) state m w sound clean safe tie stands = said_stopped last m.files m.device m.draws w tie stands
+    act_stopped (reckons strings last) state m w sound clean safe tie stands = reckoned_stopped strings last m.files m.device m.draws w tie stands
     act_stopped (changes steps last) state m w sound clean safe tie stands = changed_stopped steps last m.files m.device m.draws w sound clean safe tie stands
     act_stopped (works deed) state m w sound clean safe tie stands = worked_stopped deed state m.files m.device m.draws w sound clean safe tie stands
 

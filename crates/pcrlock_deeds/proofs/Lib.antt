@@ -3,6 +3,7 @@ pub mod Keeping
 pub mod Standing
 pub mod Objects
 pub mod Tying
+pub mod Resuming
 pub mod Acting
 pub mod Done
 pub mod Broken

@@ -86,7 +86,7 @@ by_session : (P : Parts → Type 0) (s : Parts) → P s → P (record s { next_s
 by_session P s none one = elim (nat_le 64 (length s.sessions) || nat_le 0x01000000 s.next_session) as (λ b. P (cond b s (record s { next_session = s.next_session + 1 }))) [ true ↦ none | false ↦ one ]
 
 -- the own tie of another state and a world with the same objects and no string less
-own_same : (s t : Parts) (w v : World) → Orderly s → GrowsAll w v → t.indices ≡ s.indices → t.write_counter ≡ s.write_counter → v.live ≡ w.live → v.writes ≡ w.writes
+pub own_same : (s t : Parts) (w v : World) → Orderly s → GrowsAll w v → t.indices ≡ s.indices → t.write_counter ≡ s.write_counter → v.live ≡ w.live → v.writes ≡ w.writes
     → v.objects ≡ w.objects → v.filed ≡ w.filed → Tied t v → OwnTie s w → OwnTie t v
 own_same s t w v orderly grows indices counter live writes objects filed base own = record {
   base = base;
@@ -131,7 +131,7 @@ filed_sent event s w held path (Some filed) number h =
 
 module _ (policy : List ℕ) where
   -- what is kept where no file changes and the world files the same
-  kept_same : (m n : Live) (w v : World) → n.files ≡ m.files → ((p : List ℕ) → Contains w.pins p → Contains v.pins p) → v.objects ≡ w.objects → v.filed ≡ w.filed
+  pub kept_same : (m n : Live) (w v : World) → n.files ≡ m.files → ((p : List ℕ) → Contains w.pins p → Contains v.pins p) → v.objects ≡ w.objects → v.filed ≡ w.filed
       → m.state.next_object ≤ n.state.next_object → Orderly n.state → OwnTie n.state v → IsOwnKept policy m w → IsOwnKept policy n v
   kept_same m n w v same pins objects filed rises orderly own k = record {
     orderly = orderly;

@@ -1,16 +1,17 @@
--- A command as what it says at once, as changes of files alone, or as a deed on what the device stores.
-use Rattle.std.specs.Prelude.{◌≡◌, ◌↔◌, ℕ, List, [], ◌∷◌, Contains, Option}
+-- A command as what it says at once, as work on objects of its own, as changes of files alone, or as a deed on what the
+-- device stores.
+use Rattle.std.specs.Prelude.{◌≡◌, ◌↔◌, ℕ, List, [], ◌∷◌, map, Contains, Option}
 use Rattle.std.specs.FinMap.{insert, remove}
 use Rattle.pl_base.specs.FileMap.{FileMap}
 use Rattle.hash_bank.specs.HashedString.{HashedString}
-use Rattle.tpm_model.specs.World.{World}
+use Rattle.tpm_model.specs.World.{World, hashed_world}
 use Rattle.tpm_device.specs.Stored.{Stored, Holds, TooLarge, Malformed, BadRule}
 use Rattle.pcrlock_line.specs.Begun.{by_device}
 use Rattle.pcrlock_line.specs.Machine.{Machine, Live}
 use Rattle.pcrlock_line.specs.Outcome.{Ending, Outcome, unchanged}
 use Rattle.pcrlock_line.specs.Stopped.{StandsAmong}
 use Rattle.pcrlock_line.specs.Worlds.{by_state}
-use Rattle.pcrlock_deeds.specs.Deed.{Deed, Filing, ends, writes, removes}
+use Rattle.pcrlock_deeds.specs.Deed.{Deed, Filing, ends, hashes, writes, removes}
 use Rattle.pcrlock_deeds.specs.Doings.{Stage, outcome, stages, world}
 use Rattle.pcrlock_deeds.specs.Sound.{FileRule, IsSound}
 use Rattle.pcrlock_deeds.specs.Steps.{filing_world}
@@ -23,15 +24,31 @@ pub data FileStep : Type 0 where
 pub data Act : Type 0 where
   -- an end without a change
   says : Ending → Act
+  -- an end without a change, behind strings that are hashed whatever the device stores
+  reckons : List HashedString → Ending → Act
   -- changes of files one after another, whatever the device stores
   changes : List FileStep → Ending → Act
   -- work on the state that is stored
   works : Deed → Act
 
--- the machine after a change of a file
-abbrev pub stepped : FileStep → Machine → Machine
-stepped (Written path bytes filing) m = record m { files = insert m.files path bytes }
-stepped (Removed path filing) m = record m { files = remove m.files path }
+-- the files after a change
+abbrev pub stepped_files : FileStep → FileMap → FileMap
+stepped_files (Written path bytes filing) held = insert held path bytes
+stepped_files (Removed path filing) held = remove held path
+
+-- the files after all changes
+abbrev pub files_then : List FileStep → FileMap → FileMap
+files_then [] held = held
+files_then (step ∷ steps) held = files_then steps (stepped_files step held)
+
+-- the files after each number of the changes, from none to all
+abbrev pub files_between : List FileStep → FileMap → List FileMap
+files_between [] held = held ∷ []
+files_between (step ∷ steps) held = held ∷ files_between steps (stepped_files step held)
+
+-- the machine with these files
+abbrev pub with_files : Machine → FileMap → Machine
+with_files m held = record { files = held; device = m.device; draws = m.draws }
 
 -- what it does to what the policy file states
 abbrev pub filing_of : FileStep → Filing
@@ -40,8 +57,7 @@ filing_of (Removed path filing) = filing
 
 -- the machine after all changes
 abbrev pub changed_machine : List FileStep → Machine → Machine
-changed_machine [] m = m
-changed_machine (step ∷ steps) m = changed_machine steps (stepped step m)
+changed_machine steps m = with_files m (files_then steps m.files)
 
 -- the world after all changes
 abbrev pub changed_world : List FileStep → World → World
@@ -50,8 +66,7 @@ changed_world (step ∷ steps) w = changed_world steps (filing_world (filing_of 
 
 -- the machine after each number of the changes, from none to all
 abbrev pub changed_stops : List FileStep → Machine → List Machine
-changed_stops [] m = m ∷ []
-changed_stops (step ∷ steps) m = m ∷ changed_stops steps (stepped step m)
+changed_stops steps m = map (with_files m) (files_between steps m.files)
 
 -- the same changes as the steps of a deed
 abbrev pub changing : List FileStep → Ending → Deed
@@ -73,12 +88,14 @@ pub record IsDone (o done : Outcome) : Type 0 where
 -- what the act comes to, where the state file stands at the path
 abbrev pub act_outcome : Act → List ℕ → Machine → Outcome
 act_outcome (says last) state m = unchanged last m
+act_outcome (reckons strings last) state m = record { ending = last; after = m; hashed = strings; stops = m ∷ [] }
 act_outcome (changes steps last) state m = record { ending = last; after = changed_machine steps m; hashed = []; stops = changed_stops steps m }
 act_outcome (works deed) state m = by_device m.device state m (outcome deed)
 
 -- the world after it
 abbrev pub act_world : Act → Machine → World → World
 act_world (says last) m w = w
+act_world (reckons strings last) m w = hashed_world strings w
 act_world (changes steps last) m w = changed_world steps w
 act_world (works deed) m w = by_state m.device m w (world deed)
 
@@ -102,12 +119,14 @@ IsSoundOn Files deed (BadRule rule) m w = Unit {0}
 -- each step of the act keeps a tie
 abbrev pub IsSoundAct : FileRule → Act → Machine → World → Type 0
 IsSoundAct Files (says last) m w = Unit {0}
+IsSoundAct Files (reckons strings last) m w = Unit {0}
 IsSoundAct Files (changes steps last) m w = IsSoundOn Files (changing steps last) m.device m w
 IsSoundAct Files (works deed) m w = IsSoundOn Files deed m.device m w
 
 -- the act as a deed on a state that is stored
 abbrev pub as_deed : Act → Deed
 as_deed (says last) = ends last
+as_deed (reckons strings last) = hashes strings (ends last)
 as_deed (changes steps last) = changing steps last
 as_deed (works deed) = deed
 

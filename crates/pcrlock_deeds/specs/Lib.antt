@@ -6,3 +6,4 @@ pub mod Acts
 pub mod PolicyAt
 pub mod Filed
 pub mod Kept
+pub mod Resumed

@@ -16,8 +16,9 @@ ghost use Rattle.pcrlock_line.specs.Outcome.{Ending, Outcome};
 ghost use Rattle.pcrlock_line.specs.Stopped.{StandsAmong, StandsAt};
 ghost use Rattle.pcrlock_deeds.specs.Acts.{Act, HoldsAt, IsDone, IsSoundAct, act_outcome, act_stages, act_world};
 ghost use Rattle.pcrlock_deeds.specs.Deed.{Deed, ends, keeps, writes};
-ghost use Rattle.pcrlock_deeds.specs.Doings.{after, hashed, stage_machine, stages, stops, world};
+ghost use Rattle.pcrlock_deeds.specs.Doings.{Stage, after, hashed, stage_machine, stages, stops, world};
 ghost use Rattle.pcrlock_deeds.specs.Kept.{IsKept, IsOwnKept, LeavesFiled};
+ghost use Rattle.pcrlock_deeds.specs.Resumed.{StandsKept};
 ghost use Rattle.pcrlock_deeds.specs.Sound.{AllStages, IsSound, IsTie, StandsTied};
 
 /// In the world after a deed nothing is lost of strings, pins and updates, and the strings that the deed
@@ -74,6 +75,12 @@ pub fn line_keeps_policy()
     ensures stopped { (policy state : List ℕ) (o : Outcome) (act : Act) (m : Machine) (w : World) → IsDone o (act_outcome act state m)
         → IsSoundAct (LeavesFiled policy) act m w → Clean (act_world act m w) → Safe (act_world act m w) → HoldsAt (IsOwnKept policy) m w
         → (held : Option FileMap) (kept : Option Stored) → StandsAmong held kept o.stops → StandsTied (IsOwnKept policy) held kept (act_stages act m w) }
+{}
+
+/// What stands after a stop, where a stage is tied, is kept in the stage's world by whatever comes next: with the
+/// sessions that a walk left open when it was stopped, and whatever words are drawn.
+pub fn stopped_is_kept()
+    ensures { (policy : List ℕ) (held : Option FileMap) (kept : Option Stored) (stages : List Stage) → StandsTied (IsOwnKept policy) held kept stages → StandsKept policy held kept stages }
 {}
 
 /// It can be met: by a TPM that was never used, where no policy file is there.

@@ -9,6 +9,6 @@ mod policy;
 
 pub use crate::laws::{
     deed_grows, deed_keeps_policy, deed_stands, forgotten_file_is_noticed, fresh_is_kept,
-    line_keeps_policy, lost_index_is_noticed, policy_is_tied,
+    line_keeps_policy, lost_index_is_noticed, policy_is_tied, stopped_is_kept,
 };
 pub use crate::policy::{needed_policy, policy_at};

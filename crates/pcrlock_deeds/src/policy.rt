@@ -1,5 +1,5 @@
 //! The policy in force, as its file says it.
-ghost use Rattle.std.specs.Prelude.{◌≡◌, codes, Some, IfOk, IfErr, IfSome};
+ghost use Rattle.std.specs.Prelude.{◌≡◌, Some, IfOk, IfErr, IfSome};
 ghost use Rattle.pl_base.specs.FileMap.{FileMap};
 ghost use Rattle.policy_file.specs.PolicyReading.{policy_in};
 ghost use Rattle.policy_file.specs.PolicyText.{IsPolicy};
@@ -7,7 +7,7 @@ ghost use Rattle.pcrlock_line.specs.Causes.{HasCauses};
 ghost use Rattle.pcrlock_line.specs.Content.{content_found};
 ghost use Rattle.pcrlock_deeds.specs.PolicyAt.{policy_read, policy_by, policy_needed, policy_of};
 
-use pcrlock_answer::{Answer, Place};
+use pcrlock_answer::{Answer, limit, malformed_at, no_policy};
 use pcrlock_line::{Found, Stop, read_file};
 use pl_base::{Files, Name};
 use policy_file::{FileError, Policy, read_policy};
@@ -15,31 +15,6 @@ use std::alloc::Global;
 
 /// The most bytes that a policy file may have.
 const POLICY_LIMIT: u64 = 4_194_304;
-
-/// The answer for a policy file that is malformed from the place on.
-fn malformed(alloc: Global, path: &Name, place: u32) -> Result<Answer, Stop>
-    ensures told { IfOk result (λ answer. answer ≡ Answer.Malformed path.now (Place.At place)) }
-    ensures cause { IfErr result (λ stop. stop ≡ Stop.Memory) }
-{
-    match path.copy(alloc) {
-        Ok(path) => Ok(Answer::Malformed {
-            path,
-            place: Place::At(u64::from(place)),
-        }),
-        Err(_) => Err(Stop::Memory),
-    }
-}
-
-/// The answer for a policy file of this many bytes.
-fn too_large(alloc: Global, size: u64) -> Result<Answer, Stop>
-    ensures told { IfOk result (λ answer. answer ≡ Answer.Limit (codes "policy-bytes") size) }
-    ensures cause { IfErr result (λ stop. stop ≡ Stop.Memory) }
-{
-    match Name::from_text(alloc, "policy-bytes") {
-        Ok(kind) => Ok(Answer::Limit { kind, number: size }),
-        Err(_) => Err(Stop::Memory),
-    }
-}
 
 /// The policy that the bytes spell.
 fn policy_spelled(
@@ -53,7 +28,7 @@ fn policy_spelled(
 {
     match read_policy(alloc, bytes) {
         Ok(policy) => Ok(Ok(Some(policy))),
-        Err(FileError::Malformed { place, .. }) => match malformed(alloc, path, place) {
+        Err(FileError::Malformed { place, .. }) => match malformed_at(alloc, path.text(), place) {
             Ok(answer) => Ok(Err(answer)),
             Err(_) => Err(Stop::Memory),
         },
@@ -73,7 +48,7 @@ fn policy_found(
 {
     match found {
         Found::Missing => Ok(Ok(None)),
-        Found::TooLarge(size) => match too_large(alloc, *size) {
+        Found::TooLarge(size) => match limit(alloc, "policy-bytes", *size) {
             Ok(answer) => Ok(Err(answer)),
             Err(_) => Err(Stop::Memory),
         },
@@ -105,17 +80,6 @@ pub fn policy_at<F: Files>(
     }
 }
 
-/// The answer where no policy file stands at the path.
-fn missing(alloc: Global, path: &Name) -> Result<Answer, Stop>
-    ensures told { IfOk result (λ answer. answer ≡ Answer.NoPolicy path.now) }
-    ensures cause { IfErr result (λ stop. stop ≡ Stop.Memory) }
-{
-    match path.copy(alloc) {
-        Ok(path) => Ok(Answer::NoPolicy(path)),
-        Err(_) => Err(Stop::Memory),
-    }
-}
-
 /// The policy that the file at the path spells, for a command that can't do without one. Or the answer:
 ///
 /// | Answer | Cause |
@@ -137,7 +101,7 @@ pub fn needed_policy<F: Files>(
 {
     match policy_at(alloc, files, path) {
         Ok(Ok(Some(policy))) => Ok(Ok(policy)),
-        Ok(Ok(None)) => match missing(alloc, path) {
+        Ok(Ok(None)) => match no_policy(alloc, path.text()) {
             Ok(answer) => Ok(Err(answer)),
             Err(_) => Err(Stop::Memory),
         },

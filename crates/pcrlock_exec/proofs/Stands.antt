@@ -13,7 +13,7 @@ use Rattle.pcrlock_line.specs.Begun.{by_device}
 use Rattle.pcrlock_line.specs.Causes.{HasCauses}
 use Rattle.pcrlock_line.specs.Machine.{Machine, Live, machine}
 use Rattle.pcrlock_line.specs.Stopped.{StandsAt, StandsAmong}
-use Rattle.pcrlock_line.proofs.Composed.{on_files, on_tpm, stops, then, then_stops}
+use Rattle.pcrlock_line.proofs.Composed.{on_files, on_tpm, stops, then}
 use Rattle.pcrlock_line.proofs.Devices.{stands_live, stops_first}
 use Rattle.pcrlock_line.proofs.Standing.{holds_same}
 use Rattle.pcrlock_exec.specs.Exec.{at_state, exec_outcome, exec_states, executed_line}
@@ -59,20 +59,6 @@ stands_unread held kept path m (Ok commands) at = stands_before held kept path m
 stands_unread held kept path m (Err answer) at = inl at
 
 -- ---- counts of faults
-
--- after commands that ended well
-pub later_causes : {A : Type 0} (a b c : ℕ) (result : Result Unit Stop) (stop : Stop) → a ≤ b → HasCauses (0, 0, b, 0) (0, 0, c, 0) result → result ≡ Err stop
-    → HasCauses {A = A} (0, 0, a, 0) (0, 0, c, 0) (Err stop)
-later_causes a b c result stop later causes is = then_stops (0, 0, a, 0) (0, 0, b, 0) (0, 0, c, 0) fine result stop (record {
-  files = omega arith;
-  entropy = omega arith;
-  tpm = later;
-  out = omega arith;
-  cause = λ other e. absurd (cc e);
-}) causes is
-  where
-    fine : Result Unit Stop
-    fine = Ok tt
 
 -- after the file was read
 pub read_causes : {A B : Type 0} (f h t u : ℕ) (first : Result A Stop) (result : Result B Stop) → HasCauses (f, 0, 0, 0) (h, 0, 0, 0) first → HasCauses (0, 0, t, 0) (0, 0, u, 0) result

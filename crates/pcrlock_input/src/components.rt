@@ -7,11 +7,10 @@ ghost use Rattle.component_tree.specs.TreeOf.{IsTreeOf};
 ghost use Rattle.pcrlock_input.specs.Answering.{Answers};
 ghost use Rattle.pcrlock_input.specs.Components.{place_in as place_of, limit_answer, components_of};
 
-use crate::answers::too_many;
 use crate::error::InputError;
 use cel_record::RecordsError;
 use component_tree::{Tree, TreeError, TreeLimit, load_tree};
-use pcrlock_answer::{Answer, Place};
+use pcrlock_answer::{Answer, Place, limit};
 use pl_base::{Files, Memory, Name};
 use std::alloc::Global;
 
@@ -27,16 +26,16 @@ fn place_in(kind: RecordsError) -> Place
 }
 
 /// The answer for a limit that is passed.
-fn passed(alloc: Global, limit: TreeLimit) -> Result<InputError, Memory>
-    ensures { IfOk result (λ error. error ≡ InputError.Refused (limit_answer limit)) }
+fn passed(alloc: Global, passed: TreeLimit) -> Result<Answer, Memory>
+    ensures { IfOk result (λ answer. answer ≡ limit_answer passed) }
 {
-    match limit {
-        TreeLimit::Entries => too_many(alloc, "entries", 4097),
-        TreeLimit::FileBytes(size) => too_many(alloc, "component-bytes", size),
-        TreeLimit::Components => too_many(alloc, "components", 257),
-        TreeLimit::Variants => too_many(alloc, "variants", 65),
-        TreeLimit::Records => too_many(alloc, "records", 257),
-        TreeLimit::Total => too_many(alloc, "total", 65_537),
+    match passed {
+        TreeLimit::Entries => limit(alloc, "entries", 4097),
+        TreeLimit::FileBytes(size) => limit(alloc, "component-bytes", size),
+        TreeLimit::Components => limit(alloc, "components", 257),
+        TreeLimit::Variants => limit(alloc, "variants", 65),
+        TreeLimit::Records => limit(alloc, "records", 257),
+        TreeLimit::Total => limit(alloc, "total", 65_537),
     }
 }
 
@@ -70,7 +69,7 @@ pub fn read_components<F: Files>(
             path,
             place: place_in(kind),
         })),
-        Err(TreeError::TooMany(limit)) => Err(passed(alloc, limit)?),
+        Err(TreeError::TooMany(limit)) => Err(InputError::Refused(passed(alloc, limit)?)),
         Err(TreeError::Failed) => Err(InputError::Failed),
         Err(TreeError::Memory) => Err(InputError::Memory),
     }

@@ -8,10 +8,10 @@ ghost use Rattle.pcrlock_line.specs.Content.{content_found};
 ghost use Rattle.pcrlock_input.specs.Answering.{Answers, IsShort};
 ghost use Rattle.pcrlock_input.specs.Firmware.{firmware_limit, firmware_read, firmware_in, firmware_of};
 
-use crate::answers::{malformed, no_such_file, too_many};
 use crate::error::InputError;
 use crate::path::{is_named, path_or};
 use crate::reading::read_input;
+use pcrlock_answer::{limit, malformed_at, no_such_file};
 use pcrlock_line::Found;
 use pl_base::{Files, Name};
 use std::alloc::Global;
@@ -32,8 +32,12 @@ fn log_in(alloc: Global, path: &str, bytes: &[u8]) -> Result<Option<FirmwareLog>
 {
     match read_log(alloc, bytes) {
         Ok(log) => Ok(Some(log)),
-        Err(LogError::Malformed { place, .. }) => Err(malformed(alloc, path, place)?),
-        Err(LogError::TooMany) => Err(too_many(alloc, "firmware-records", 16_385)?),
+        Err(LogError::Malformed { place, .. }) => {
+            Err(InputError::Refused(malformed_at(alloc, path, place)?))
+        }
+        Err(LogError::TooMany) => {
+            Err(InputError::Refused(limit(alloc, "firmware-records", 16_385)?))
+        }
         Err(LogError::Memory) => Err(InputError::Memory),
     }
 }
@@ -51,9 +55,11 @@ fn log_found(
     ensures writable { IfOk result (λ log. IfSome log IsWritable) }
 {
     match found {
-        Found::Missing if named => Err(no_such_file(alloc, path)?),
+        Found::Missing if named => Err(InputError::Refused(no_such_file(alloc, path)?)),
         Found::Missing => Ok(None),
-        Found::TooLarge(size) => Err(too_many(alloc, "firmware-bytes", *size)?),
+        Found::TooLarge(size) => {
+            Err(InputError::Refused(limit(alloc, "firmware-bytes", *size)?))
+        }
         Found::Bytes(bytes) => log_in(alloc, path, bytes),
     }
 }

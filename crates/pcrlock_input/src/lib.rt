@@ -4,7 +4,6 @@
 //! and answer alike.
 #![tactic(auto)]
 
-mod answers;
 mod components;
 mod error;
 mod firmware;

@@ -8,10 +8,10 @@ ghost use Rattle.pcrlock_line.specs.Content.{content_found};
 ghost use Rattle.pcrlock_input.specs.Answering.{Answers, IsShort};
 ghost use Rattle.pcrlock_input.specs.User.{user_limit, user_read, user_in, user_of};
 
-use crate::answers::{malformed, no_such_file, too_many};
 use crate::error::InputError;
 use crate::path::{is_named, path_or};
 use crate::reading::read_input;
+use pcrlock_answer::{limit, malformed_at, no_such_file};
 use pcrlock_line::Found;
 use pl_base::{Files, List, Name};
 use std::alloc::Global;
@@ -32,9 +32,15 @@ fn log_in(alloc: Global, path: &str, bytes: &[u8]) -> Result<UserLog, InputError
 {
     match read_seq(alloc, bytes) {
         Ok(log) => Ok(log),
-        Err(SeqError::BadSeparator(place)) => Err(malformed(alloc, path, place)?),
-        Err(SeqError::BadRecord { number, .. }) => Err(malformed(alloc, path, number)?),
-        Err(SeqError::TooMany) => Err(too_many(alloc, "userspace-records", 4097)?),
+        Err(SeqError::BadSeparator(place)) => {
+            Err(InputError::Refused(malformed_at(alloc, path, place)?))
+        }
+        Err(SeqError::BadRecord { number, .. }) => {
+            Err(InputError::Refused(malformed_at(alloc, path, number)?))
+        }
+        Err(SeqError::TooMany) => {
+            Err(InputError::Refused(limit(alloc, "userspace-records", 4097)?))
+        }
         Err(SeqError::Memory) => Err(InputError::Memory),
     }
 }
@@ -47,12 +53,14 @@ fn log_found(alloc: Global, named: bool, path: &str, found: &Found) -> Result<Us
     ensures few { IfOk result (λ log. length log.records ≤ text_limit) }
 {
     match found {
-        Found::Missing if named => Err(no_such_file(alloc, path)?),
+        Found::Missing if named => Err(InputError::Refused(no_such_file(alloc, path)?)),
         Found::Missing => Ok(UserLog {
             records: List::new(alloc),
             skipped: 0,
         }),
-        Found::TooLarge(size) => Err(too_many(alloc, "userspace-bytes", *size)?),
+        Found::TooLarge(size) => {
+            Err(InputError::Refused(limit(alloc, "userspace-bytes", *size)?))
+        }
         Found::Bytes(bytes) => log_in(alloc, path, bytes),
     }
 }

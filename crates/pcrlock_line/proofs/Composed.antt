@@ -1,6 +1,6 @@
 -- The causes of two steps, one after the other, are causes of the whole.
-use Rattle.std.proofs.Common.{◌≡◌, ◌⊎◌, ℕ, ◌+◌, ◌-◌, ◌^◌, ◌≤◌, min, inl, inr, subst, arith}
-use Rattle.std.specs.Prelude.{Result, Ok, Err}
+use Rattle.std.proofs.Common.{◌≡◌, ℕ, ◌≤◌, inl, inr, subst, arith}
+use Rattle.std.specs.Prelude.{Result, Ok, Err, IfOk, IfErr}
 use Rattle.pl_base.specs.Faults.{Rose}
 use Rattle.pcrlock_line.specs.declared.stop.Stop.{Stop}
 use Rattle.pcrlock_line.specs.declared.stop.Stop.TheVariants.{ReadFault, WriteFault, EntropyFault, TpmFault, Memory}
@@ -154,3 +154,40 @@ memory a b first h = record {
   out = h.out;
   cause = λ other same. let same_stop : Memory ≡ other = cc in subst (IsCaused a b) same_stop tt;
 }
+
+-- what is made of an earlier step's result has its causes, if it stops for want of memory alone
+pub without_fault : {A B : Type 0} (a b : Counts) (first : Result A Stop) (second : Result B Stop) → HasCauses a b first → IfErr second (λ s. s ≡ Memory) → HasCauses a b second
+without_fault {B = B} a b first second h k = record {
+  files = h.files;
+  entropy = h.entropy;
+  tpm = h.tpm;
+  out = h.out;
+  cause = by second k;
+}
+  where
+    by : (r : Result B Stop) → IfErr r (λ s. s ≡ Memory) → (s : Stop) → r ≡ Err s → IsCaused a b s
+    by (Ok x) none s e = absurd (cc e)
+    by (Err given) is s e = let same : Memory ≡ s = cc in subst (IsCaused a b) same tt
+
+-- a stop behind steps of the TPM that went well
+pub later_stops : {B D : Type 0} (t u v : ℕ) (second : Result B Stop) (s : Stop) → t ≤ u → HasCauses (0, 0, u, 0) (0, 0, v, 0) second → second ≡ Err s
+    → HasCauses {A = D} (0, 0, t, 0) (0, 0, v, 0) (Err s)
+later_stops t u v second s le h e = then_stops (0, 0, t, 0) (0, 0, u, 0) (0, 0, v, 0) fine second s (record {
+  files = omega arith;
+  entropy = omega arith;
+  tpm = le;
+  out = omega arith;
+  cause = λ other is. absurd (cc is);
+}) h e
+  where
+    fine : Result Unit Stop
+    fine = Ok tt
+
+-- what holds anyway holds of each result
+pub if_ok : {A E : Type 0} (P : Type 0) (result : Result A E) → P → IfOk result (λ _. P)
+if_ok P (Ok x) h = h
+if_ok P (Err e) h = tt
+
+pub if_err : {A E : Type 0} (P : Type 0) (result : Result A E) → P → IfErr result (λ _. P)
+if_err P (Ok x) h = tt
+if_err P (Err e) h = h

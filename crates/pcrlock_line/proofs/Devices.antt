@@ -1,35 +1,46 @@
 -- A command by what its device stores.
-use Rattle.std.proofs.Common.{◌≡◌, ◌⊎◌, ℕ, List, [], ◌∷◌, inl, inr, refl, sym, ap, ◌∙◌, subst}
-use Rattle.std.specs.Prelude.{Option, None, Some, IfOk, IfErr, Result, Ok, Err}
+use Rattle.std.proofs.Common.{◌≡◌, ℕ, List, [], ◌∷◌, inl, refl, sym, ap, ◌∙◌, subst}
+use Rattle.std.specs.Prelude.{Option, None, Some, IfErr, Result, Ok, Err}
 use Rattle.pl_base.specs.FileMap.{FileMap}
 use Rattle.tpm_model.specs.declared.parts.Parts.{Parts}
 use Rattle.tpm_device.specs.Stored.{Stored, Holds, TooLarge, Malformed, BadRule}
 use Rattle.pcrlock_answer.specs.declared.answer.Answer.{Answer}
-use Rattle.pcrlock_line.specs.declared.reply.Reply.{Reply}
 use Rattle.pcrlock_line.specs.declared.reply.Reply.TheVariants as reply
 use Rattle.pcrlock_line.specs.declared.stop.Stop.{Stop}
 use Rattle.pcrlock_line.specs.Machine.{Machine, Live, Tells, machine}
 use Rattle.pcrlock_line.specs.Outcome.{Outcome, Gives, refused_line}
 use Rattle.pcrlock_line.specs.Stopped.{StandsAt, StandsAmong}
 use Rattle.pcrlock_line.proofs.Standing.{same_stored}
-use Rattle.pcrlock_line.specs.Begun.{state_refusal, by_device}
+use Rattle.pcrlock_line.specs.Begun.{state_refusal, by_device, by_stored}
+
+-- no state is stored: it comes to what comes of the refusal
+pub stored_none : {A : Type 0} (kept : Stored) (path : List ℕ) (some : Parts → A) (none : Answer → A) (answer : Answer) → Some answer ≡ state_refusal path kept
+    → none answer ≡ by_stored kept path some none
+stored_none (Holds s) path some none answer e = absurd (cc e)
+stored_none (TooLarge size) path some none answer e = let same : answer ≡ _ = cc in ap none same
+stored_none (Malformed at) path some none answer e = let same : answer ≡ _ = cc in ap none same
+stored_none (BadRule broken) path some none answer e = let same : answer ≡ _ = cc in ap none same
+
+-- a state is stored: it comes to what comes of that
+pub stored_some : {A : Type 0} (kept : Stored) (path : List ℕ) (some : Parts → A) (none : Answer → A) (P : A → Type 0) → None ≡ state_refusal path kept
+    → ((s : Parts) → kept ≡ Holds s → P (some s)) → P (by_stored kept path some none)
+stored_some (Holds s) path some none P e h = h s refl
+stored_some (TooLarge size) path some none P e h = absurd (cc e)
+stored_some (Malformed at) path some none P e h = absurd (cc e)
+stored_some (BadRule broken) path some none P e h = absurd (cc e)
 
 -- no state is stored: the refusal is the outcome
 pub refused_by : (kept : Stored) (path : List ℕ) (m : Machine) (work : Live → Outcome) (answer : Answer) → Some answer ≡ state_refusal path kept
     → by_device kept path m work ≡ refused_line answer m
-refused_by (Holds s) path m work answer e = absurd (cc e)
-refused_by (TooLarge size) path m work answer e = let same : answer ≡ _ = cc in ap (λ a. refused_line a m) (sym same)
-refused_by (Malformed at) path m work answer e = let same : answer ≡ _ = cc in ap (λ a. refused_line a m) (sym same)
-refused_by (BadRule broken) path m work answer e = let same : answer ≡ _ = cc in ap (λ a. refused_line a m) (sym same)
+refused_by kept path m work answer e =
+    sym (stored_none kept path (λ s. work (record { files = m.files; state = s; draws = m.draws })) (λ why. refused_line why m) answer e)
 
 -- a state is stored: what its work comes to is the outcome
 pub begun_by : (kept : Stored) (path : List ℕ) (m : Machine) (work : Live → Outcome) (P : Outcome → Type 0) → None ≡ state_refusal path kept
     → ((s : Parts) → kept ≡ Holds s → P (work (record { files = m.files; state = s; draws = m.draws })))
     → P (by_device kept path m work)
-begun_by (Holds s) path m work P e h = h s refl
-begun_by (TooLarge size) path m work P e h = absurd (cc e)
-begun_by (Malformed at) path m work P e h = absurd (cc e)
-begun_by (BadRule broken) path m work P e h = absurd (cc e)
+begun_by kept path m work P e h =
+    stored_some kept path (λ s. work (record { files = m.files; state = s; draws = m.draws })) (λ why. refused_line why m) P e h
 
 -- the objects that tell a machine tell it with the state that it stores
 pub told_live : (held : Option FileMap) (stored : Option Stored) (words : Option (List (List ℕ))) (m : Machine) (s : Parts) → m.device ≡ Holds s

@@ -1,6 +1,6 @@
 -- What a replacement of a file leaves where it stops.
 use Rattle.std.proofs.Common.{◌≡◌, ◌⊎◌, inl, subst}
-use Rattle.std.specs.Prelude.{Option, Some, Result, Ok, Err}
+use Rattle.std.specs.Prelude.{Option, Some, Err}
 use Rattle.pl_base.specs.FileMap.{FileMap}
 use Rattle.pl_base.specs.declared.files.ReplaceError.{ReplaceError}
 use Rattle.pl_base.specs.declared.files.ReplaceError.TheVariants as replace

@@ -25,12 +25,16 @@ rule_name rule.IndexAttributes = codes "indexattributes"
 rule_name rule.ObjectOrder = codes "objectorder"
 rule_name rule.Secret = codes "secret"
 
+-- by what is stored in the state file at the path: what comes of the state, or of the answer why there is none
+abbrev pub by_stored : {A : Type 0} → Stored → List ℕ → (Parts → A) → (Answer → A) → A
+by_stored (Holds s) path some none = some s
+by_stored (TooLarge size) path some none = none (said.Limit (codes "state-bytes") size)
+by_stored (Malformed at) path some none = none (said.Malformed path (place.At at))
+by_stored (BadRule broken) path some none = none (said.Malformed path (place.Rule (rule_name broken)))
+
 -- why the state file at the path gives no state
 abbrev pub state_refusal : List ℕ → Stored → Option Answer
-state_refusal path (Holds s) = None
-state_refusal path (TooLarge size) = Some (said.Limit (codes "state-bytes") size)
-state_refusal path (Malformed at) = Some (said.Malformed path (place.At at))
-state_refusal path (BadRule broken) = Some (said.Malformed path (place.Rule (rule_name broken)))
+state_refusal path kept = by_stored kept path (λ s. None) (λ answer. Some answer)
 
 -- the device is ready with the state that is stored
 pub record IsBegun (s : Parts) (readiness : Bool) (live : Option Parts) : Type 0 where
@@ -39,7 +43,5 @@ pub record IsBegun (s : Parts) (readiness : Bool) (live : Option Parts) : Type 0
 
 -- what a command comes to by what the device stores: its work on a state, or why there is none
 abbrev pub by_device : Stored → List ℕ → Machine → (Live → Outcome) → Outcome
-by_device (Holds s) path m work = work (record { files = m.files; state = s; draws = m.draws })
-by_device (TooLarge size) path m work = refused_line (said.Limit (codes "state-bytes") size) m
-by_device (Malformed at) path m work = refused_line (said.Malformed path (place.At at)) m
-by_device (BadRule broken) path m work = refused_line (said.Malformed path (place.Rule (rule_name broken))) m
+by_device kept path m work =
+    by_stored kept path (λ s. work (record { files = m.files; state = s; draws = m.draws })) (λ answer. refused_line answer m)

@@ -7,5 +7,6 @@ pub mod Content
 pub mod Asked
 pub mod Begun
 pub mod Changes
+pub mod PcrAnswer
 pub mod Stopped
 pub mod Worlds

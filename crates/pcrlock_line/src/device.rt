@@ -1,14 +1,14 @@
 //! The device that a command uses.
-ghost use Rattle.std.specs.Prelude.{[], is_none, ◌≡◌, ℕ, true, None, Option, Some, IfOk, IfErr, Result, Ok, Err};
+ghost use Rattle.std.specs.Prelude.{is_none, ◌≡◌, ℕ, true, None, Option, Some, IfOk, IfErr, Result, Ok, Err};
 ghost use Rattle.tpm_model.specs.declared.parts.Parts.{Parts};
-ghost use Rattle.tpm_device.specs.Stored.{Stored, Holds, TooLarge, Malformed, BadRule};
+ghost use Rattle.tpm_device.specs.Stored.{Stored, Holds, BadRule};
 ghost use Rattle.tpm_model.specs.Rules.{HasRules};
 ghost use Rattle.pcrlock_line.specs.Asked.{IsAnswered, IsStopped};
 ghost use Rattle.pcrlock_line.specs.Begun.{rule_name as name_of_rule, state_refusal, IsBegun};
 ghost use Rattle.pcrlock_line.specs.Causes.{HasCauses};
 
 use crate::Stop;
-use pcrlock_answer::{Answer, Place};
+use pcrlock_answer::{Answer, Place, limit, malformed, malformed_at};
 use pl_base::{Memory, Name};
 use std::alloc::Global;
 use tpm_device::{BeginError, ExecError, Tpm};
@@ -34,34 +34,12 @@ fn rule_name(rule: StateRule) -> &'static str
     }
 }
 
-/// The answer for a state file of too many bytes.
-fn too_large(alloc: Global, size: u64) -> Result<Answer, Memory>
-    ensures { IfOk result (λ answer. Some answer ≡ state_refusal [] (TooLarge size)) }
-{
-    Ok(Answer::Limit {
-        kind: Name::from_text(alloc, "state-bytes")?,
-        number: size,
-    })
-}
-
-/// The answer for a state file that is malformed from the place on.
-fn malformed(alloc: Global, path: &Name, place: u32) -> Result<Answer, Memory>
-    ensures { IfOk result (λ answer. Some answer ≡ state_refusal path.now (Malformed place)) }
-{
-    Ok(Answer::Malformed {
-        path: path.copy(alloc)?,
-        place: Place::At(u64::from(place)),
-    })
-}
-
 /// The answer for a state file whose state breaks the rule.
-fn breaks_rule(alloc: Global, path: &Name, rule: StateRule) -> Result<Answer, Memory>
+fn breaks_rule(alloc: Global, path: &str, rule: StateRule) -> Result<Answer, Memory>
     ensures { IfOk result (λ answer. Some answer ≡ state_refusal path.now (BadRule rule)) }
 {
-    Ok(Answer::Malformed {
-        path: path.copy(alloc)?,
-        place: Place::Rule(Name::from_text(alloc, rule_name(rule))?),
-    })
+    let name = Name::from_text(alloc, rule_name(rule))?;
+    malformed(alloc, path, Place::Rule(name))
 }
 
 /// Makes the device ready, or answers why what is stored, in the state file at the path, is no
@@ -76,9 +54,9 @@ pub fn ready<T: Tpm>(alloc: Global, tpm: &mut T, path: &Name) -> Result<Option<A
 {
     match tpm.begin(alloc) {
         Ok(()) => Ok(None),
-        Err(BeginError::TooLarge(size)) => Ok(Some(too_large(alloc, size)?)),
-        Err(BeginError::Malformed(place)) => Ok(Some(malformed(alloc, path, place)?)),
-        Err(BeginError::BadRule(rule)) => Ok(Some(breaks_rule(alloc, path, rule)?)),
+        Err(BeginError::TooLarge(size)) => Ok(Some(limit(alloc, "state-bytes", size)?)),
+        Err(BeginError::Malformed(place)) => Ok(Some(malformed_at(alloc, path.text(), place)?)),
+        Err(BeginError::BadRule(rule)) => Ok(Some(breaks_rule(alloc, path.text(), rule)?)),
         Err(BeginError::Failed) => Err(Stop::TpmFault),
         Err(BeginError::Memory) => Err(Stop::Memory),
     }

@@ -10,8 +10,9 @@ use Rattle.pcrlock_line.specs.Machine.{Machine, Tells}
 use Rattle.pcrlock_line.specs.Outcome.{Gives}
 use Rattle.pcrlock_line.specs.Stopped.{StandsAmong}
 use Rattle.pcrlock_line.proofs.Standing.{same_stored}
-use Rattle.pcrlock_lock.specs.FileChange.{FileChange, files_between, HoldsOneOf}
-use Rattle.pcrlock_lock.specs.Changing.{Work, changes_in, with_files, changing_line, IsDone}
+use Rattle.pcrlock_deeds.specs.Acts.{FileStep, files_between, with_files}
+use Rattle.pcrlock_lock.specs.Between.{HoldsOneOf}
+use Rattle.pcrlock_lock.specs.Changing.{Work, changes_in, changing_line, IsDone}
 
 gives : (held now : Option FileMap) (stored : Option Stored) (words : Option (List (List ℕ))) (m : Machine) (reply : Reply) (given : Result Work Answer)
     → Tells held stored words m → IsDone m.files now reply given → Gives now stored words reply (changing_line given m)
@@ -46,7 +47,7 @@ done_stops (Err stop) held now stored words m found given e t h =
     (subst (λ (x : Result Work Answer). HoldsOneOf now (files_between (changes_in x) m.files)) e h)
 
 -- the files as they were are the first of those between the changes
-pub first_between : (now : Option FileMap) (changes : List FileChange) (files : FileMap) → now ≡ Some files → HoldsOneOf now (files_between changes files)
+pub first_between : (now : Option FileMap) (changes : List FileStep) (files : FileMap) → now ≡ Some files → HoldsOneOf now (files_between changes files)
 first_between now [] files e = inl e
 first_between now (change ∷ more) files e = inl e
 

@@ -1,18 +1,18 @@
 -- The least PCR of a kind that lacks its separator.
-use Rattle.std.proofs.Common.{◌≡◌, ◌<◌, ◌≤◌, ◌⊎◌, ◌&&◌, ◌^◌, ℕ, Bool, true, false, cond, eqb, List, [], ◌∷◌, inl, inr, refl, ap, sym, ◌∙◌, subst, arith, lit<}
+use Rattle.std.proofs.Common.{◌≡◌, ◌<◌, ◌≤◌, ◌⊎◌, ◌^◌, ℕ, Bool, true, false, cond, eqb, List, [], ◌∷◌, inl, inr, refl, ap, sym, ◌∙◌, subst, arith, lit<}
 use Rattle.std.specs.Prelude.{Option, Some, None, Err, find}
-use Rattle.std.proofs.lemmas.Bool.{cases_lt}
+use Rattle.std.proofs.lemmas.Bool.{and_parts, cases_lt}
 use Rattle.std.proofs.lemmas.Nat.Bits.{bit_at_above}
 use Rattle.policy_digest.specs.Mask.{has_pcr}
 use Rattle.pcr_replay.specs.Row.{Row}
-use Rattle.component_make.specs.Lock.{IsAnswer, IsFirstLacking}
+use Rattle.component_make.specs.Lock.{IsAnswer, IsFirstLacking, lacks_separator}
 use Rattle.component_make.specs.declared.error.LockError.{LockError}
 use Rattle.component_make.specs.declared.error.LockError.TheVariants as lock
 use Rattle.pcrlock_answer.specs.declared.answer.Answer.TheVariants as said
 use Rattle.component_make.specs.declared.kind.FirmwareKind.{FirmwareKind}
 use Rattle.component_make.specs.declared.kind.FirmwareKind.TheVariants.{Code, Config}
 use Rattle.component_make.specs.FirmwareFiles.{mask_in, pcrs_in}
-use Rattle.pcrlock_lock.specs.LockFirmware.{lacks, halves_by, halves_of, locked_of}
+use Rattle.pcrlock_lock.specs.LockFirmware.{halves_by, halves_of, locked_of}
 
 clash : (b : Bool) → b ≡ false → b ≡ true → ⊥
 clash false n h = cc h
@@ -65,23 +65,16 @@ second_found test a b pcr e n h =
     let there : test b ≡ true = subst (λ p. test p ≡ true) e h in
     ap (λ t. cond t (Some a) (find test (b ∷ []))) n ∙ ap (λ t. cond t (Some b) None) there ∙ ap Some (sym e)
 
-both_true : (x y : Bool) → (x && y) ≡ true → (x ≡ true) × (y ≡ true)
-both_true true true h = (refl, refl)
-both_true true false h = absurd (cc h)
-both_true false y h = absurd (cc h)
-
-pub first_lacking : (kind : FirmwareKind) (rows : List Row) (pcr : ℕ) → IsFirstLacking (mask_in kind) rows pcr → find (lacks rows) (pcrs_in kind) ≡ Some pcr
+pub first_lacking : (kind : FirmwareKind) (rows : List Row) (pcr : ℕ) → IsFirstLacking (mask_in kind) rows pcr → find (lacks_separator (mask_in kind) rows) (pcrs_in kind) ≡ Some pcr
 first_lacking Code rows pcr h =
-    let at = both_true (has_pcr 5 pcr) (lacks rows pcr) h.lacks in
-    elim (code_pcr pcr at.0) [
-      | inl e ↦ first_found (lacks rows) 0 2 pcr e at.1
-      | inr e ↦ second_found (lacks rows) 0 2 pcr e (h.least 0 (omega arith)) at.1
+    elim (code_pcr pcr (and_parts _ _ h.lacks).0) [
+      | inl e ↦ first_found (lacks_separator 5 rows) 0 2 pcr e h.lacks
+      | inr e ↦ second_found (lacks_separator 5 rows) 0 2 pcr e (h.least 0 (omega arith)) h.lacks
     ]
 first_lacking Config rows pcr h =
-    let at = both_true (has_pcr 10 pcr) (lacks rows pcr) h.lacks in
-    elim (config_pcr pcr at.0) [
-      | inl e ↦ first_found (lacks rows) 1 3 pcr e at.1
-      | inr e ↦ second_found (lacks rows) 1 3 pcr e (h.least 1 (omega arith)) at.1
+    elim (config_pcr pcr (and_parts _ _ h.lacks).0) [
+      | inl e ↦ first_found (lacks_separator 10 rows) 1 3 pcr e h.lacks
+      | inr e ↦ second_found (lacks_separator 10 rows) 1 3 pcr e (h.least 1 (omega arith)) h.lacks
     ]
 
 lacking : (kind : FirmwareKind) (rows : List Row) (pcr : ℕ) → IsFirstLacking (mask_in kind) rows pcr → locked_of kind rows ≡ Err (said.NoSeparator pcr)

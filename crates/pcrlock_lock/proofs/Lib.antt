@@ -2,4 +2,3 @@ pub mod Acts
 pub mod Done
 pub mod Lacking
 pub mod Removed
-pub mod Stops

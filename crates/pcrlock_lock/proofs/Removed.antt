@@ -1,31 +1,15 @@
--- What the removal of a file answers and leaves, and what several removals come to.
+-- What several removals come to.
 use Rattle.std.proofs.Common.{◌≡◌, ◌⊎◌, ◌+◌, ℕ, Bool, true, false, List, [], ◌∷◌, length, inl, inr, refl, ap, sym, ◌∙◌, subst, suc, arith}
-use Rattle.std.specs.Prelude.{Option, Some, None, is_some, Err, if◌then◌else◌}
+use Rattle.std.specs.Prelude.{Option, Some, None, is_some, if◌then◌else◌}
 use Rattle.std.specs.FinMap.{get, remove}
 use Rattle.std.proofs.lemmas.Bool.{cases_Bool}
 use Rattle.pl_base.specs.FileMap.{FileMap}
-use Rattle.pl_base.specs.declared.files.RemoveError.{RemoveError}
-use Rattle.pl_base.specs.declared.files.RemoveError.TheVariants as gone
-use Rattle.pl_base.specs.FileAnswers.{RemoveLeaves}
 use Rattle.pl_base.proofs.HeldFiles.{remove-absent}
-use Rattle.pcrlock_lock.specs.FileChange.{FileChange, Removes, files_then, files_between, HoldsOneOf}
+use Rattle.pcrlock_deeds.specs.Acts.{FileStep, Removed, files_then, files_between}
+use Rattle.pcrlock_deeds.specs.Deed.{keeps}
+use Rattle.pcrlock_lock.specs.Between.{HoldsOneOf}
 use Rattle.pcrlock_lock.specs.UnlockFirmware.{counted, removals}
 use Rattle.pcrlock_lock.proofs.Done.{first_between}
-
--- no file stood there, and the files are those without it
-pub missing : (files : FileMap) (text path : List ℕ) (error : RemoveError) (now : Option FileMap) → text ≡ path → error ≡ gone.Missing
-    → RemoveLeaves files text (Err error) now → (get files path ≡ None) × (now ≡ Some (remove files path))
-missing files text path error now p e h =
-    let left = subst (λ (x : RemoveError). RemoveLeaves files path (Err x) now) e (subst (λ (t : List ℕ). RemoveLeaves files t (Err error) now) p h) in
-    (left.0, left.1 ∙ ap Some (sym (remove-absent files path left.0)))
-
-pub failed : (files : FileMap) (text path : List ℕ) (error : RemoveError) (now : Option FileMap) → text ≡ path → error ≡ gone.Failed
-    → RemoveLeaves files text (Err error) now → (now ≡ Some files) ⊎ (now ≡ Some (remove files path))
-failed files text path error now p e h = subst (λ (x : RemoveError). RemoveLeaves files path (Err x) now) e (subst (λ (t : List ℕ). RemoveLeaves files t (Err error) now) p h)
-
-pub no_memory : (files : FileMap) (text path : List ℕ) (error : RemoveError) (now : Option FileMap) → text ≡ path → error ≡ gone.Memory
-    → RemoveLeaves files text (Err error) now → (now ≡ Some files) ⊎ (now ≡ Some (remove files path))
-no_memory files text path error now p e h = let same = subst (λ (x : RemoveError). RemoveLeaves files path (Err x) now) e (subst (λ (t : List ℕ). RemoveLeaves files t (Err error) now) p h) in inl same
 
 is_none : {X : Type 0} (o : Option X) → is_some o ≡ false → o ≡ None
 is_none None e = refl
@@ -35,13 +19,13 @@ is_none (Some x) e = absurd (cc e)
 passed : (files : FileMap) (path : List ℕ) (more : List (List ℕ)) → is_some (get files path) ≡ false
     → removals (path ∷ more) files ≡ removals more (remove files path)
 passed files path more e =
-    ap (λ b. if b then Removes path ∷ removals more (remove files path) else removals more files) e
+    ap (λ b. if b then Removed path keeps ∷ removals more (remove files path) else removals more files) e
     ∙ ap (λ f. removals more f) (sym (remove-absent files path (is_none (get files path) e)))
 
 taken : (files : FileMap) (path : List ℕ) (more : List (List ℕ)) → is_some (get files path) ≡ true
-    → removals (path ∷ more) files ≡ Removes path ∷ removals more (remove files path)
+    → removals (path ∷ more) files ≡ Removed path keeps ∷ removals more (remove files path)
 taken files path more e =
-    ap (λ b. if b then Removes path ∷ removals more (remove files path) else removals more files) e
+    ap (λ b. if b then Removed path keeps ∷ removals more (remove files path) else removals more files) e
 
 count_true : (b : Bool) (n : ℕ) → b ≡ true → suc n ≡ (if b then 1 else 0) + n
 count_true true n e = omega arith
@@ -56,9 +40,9 @@ pub one_more : (files : FileMap) (path : List ℕ) (more : List (List ℕ))
     → length (removals (path ∷ more) files) ≡ (if is_some (get files path) then 1 else 0) + length (removals more (remove files path))
 one_more files path more =
     elim (cases_Bool (is_some (get files path))) [
-      | inl e ↦ ap (λ (l : List FileChange). length l) (taken files path more e)
+      | inl e ↦ ap (λ (l : List FileStep). length l) (taken files path more e)
           ∙ count_true (is_some (get files path)) (length (removals more (remove files path))) e
-      | inr e ↦ ap (λ (l : List FileChange). length l) (passed files path more e)
+      | inr e ↦ ap (λ (l : List FileStep). length l) (passed files path more e)
           ∙ count_false (is_some (get files path)) (length (removals more (remove files path))) e
     ]
 
@@ -66,8 +50,8 @@ pub then_more : (files : FileMap) (path : List ℕ) (more : List (List ℕ))
     → files_then (removals (path ∷ more) files) files ≡ files_then (removals more (remove files path)) (remove files path)
 then_more files path more =
     elim (cases_Bool (is_some (get files path))) [
-      | inl e ↦ ap (λ (l : List FileChange). files_then l files) (taken files path more e)
-      | inr e ↦ ap (λ (l : List FileChange). files_then l files) (passed files path more e)
+      | inl e ↦ ap (λ (l : List FileStep). files_then l files) (taken files path more e)
+      | inr e ↦ ap (λ (l : List FileStep). files_then l files) (passed files path more e)
           ∙ ap (files_then (removals more (remove files path))) (sym (remove-absent files path (is_none (get files path) e)))
     ]
 
@@ -76,8 +60,8 @@ pub between_more : (now : Option FileMap) (files : FileMap) (path : List ℕ) (m
     → HoldsOneOf now (files_between (removals (path ∷ more) files) files)
 between_more now files path more h =
     elim (cases_Bool (is_some (get files path))) [
-      | inl e ↦ subst (λ (l : List FileChange). HoldsOneOf now (files_between l files)) (sym (taken files path more e)) (inr h)
-      | inr e ↦ subst (λ (l : List FileChange). HoldsOneOf now (files_between l files)) (sym (passed files path more e))
+      | inl e ↦ subst (λ (l : List FileStep). HoldsOneOf now (files_between l files)) (sym (taken files path more e)) (inr h)
+      | inr e ↦ subst (λ (l : List FileStep). HoldsOneOf now (files_between l files)) (sym (passed files path more e))
           (subst (λ (f : FileMap). HoldsOneOf now (files_between (removals more (remove files path)) f)) (remove-absent files path (is_none (get files path) e)) h)
     ]
 

@@ -1,26 +1,19 @@
 -- The locks as acts: changes of component files alone, none of which is the policy file.
-use Rattle.std.specs.Prelude.{ℕ, List, map, Option, Result}
+use Rattle.std.specs.Prelude.{ℕ, List, Option, Result}
 use Rattle.component_make.specs.declared.kind.FirmwareKind.{FirmwareKind}
 use Rattle.tpm_model.specs.World.{World}
 use Rattle.pcrlock_answer.specs.declared.answer.Answer.{Answer}
 use Rattle.pcrlock_line.specs.Content.{content_of}
 use Rattle.pcrlock_line.specs.Machine.{Machine}
-use Rattle.pcrlock_deeds.specs.Acts.{Act, FileStep, Written, Removed, changes}
-use Rattle.pcrlock_deeds.specs.Deed.{keeps}
+use Rattle.pcrlock_deeds.specs.Acts.{Act, changes}
 use Rattle.pcrlock_lock.specs.Changing.{Work, changes_in, ending_in}
-use Rattle.pcrlock_lock.specs.FileChange.{FileChange, Sets, Removes}
 use Rattle.pcrlock_lock.specs.LockFirmware.{firmware_work}
 use Rattle.pcrlock_lock.specs.LockRaw.{raw_by, raw_limit}
 use Rattle.pcrlock_lock.specs.UnlockFirmware.{unlock_work}
 
--- a change leaves what the policy file states
-abbrev pub kept_step : FileChange → FileStep
-kept_step (Sets path bytes) = Written path bytes keeps
-kept_step (Removes path) = Removed path keeps
-
 -- the changes of some work, and how it ends
 abbrev pub work_act : Result Work Answer → Act
-work_act given = changes (map kept_step (changes_in given)) (ending_in given)
+work_act given = changes (changes_in given) (ending_in given)
 
 unfoldable pub lock_firmware_act : FirmwareKind → Option (List ℕ) → List ℕ → List ℕ → Machine → World → Act
 lock_firmware_act kind named folder variant m w = work_act (firmware_work kind named folder variant m.files)

@@ -1,16 +1,16 @@
 -- Commands that read files and then change some, and use nothing else.
-use Rattle.std.specs.Prelude.{◌≡◌, ℕ, List, [], map, Option, Some, Result, Ok, Err}
+use Rattle.std.specs.Prelude.{◌≡◌, ℕ, List, [], Option, Some, Result, Ok, Err}
 use Rattle.pl_base.specs.FileMap.{FileMap}
 use Rattle.pcrlock_answer.specs.declared.answer.Answer.{Answer}
 use Rattle.pcrlock_line.specs.declared.reply.Reply.{Reply}
 use Rattle.pcrlock_line.specs.Machine.{Machine}
 use Rattle.pcrlock_line.specs.Outcome.{Ending, Fine, Refused, Outcome, ending_of}
-use Rattle.pcrlock_lock.specs.FileChange.{FileChange, files_then, files_between}
+use Rattle.pcrlock_deeds.specs.Acts.{FileStep, changed_machine, changed_stops, files_then}
 
 -- the text that such a command prints, and its changes
 pub record Work : Type 0 where
   pub text : List ℕ
-  pub changes : List FileChange
+  pub changes : List FileStep
 
 -- how it ends: with its text, or with the answer for which it does nothing
 abbrev pub ending_in : Result Work Answer → Ending
@@ -18,21 +18,17 @@ ending_in (Ok work) = Fine work.text
 ending_in (Err answer) = Refused answer
 
 -- what it changes
-abbrev pub changes_in : Result Work Answer → List FileChange
+abbrev pub changes_in : Result Work Answer → List FileStep
 changes_in (Ok work) = work.changes
 changes_in (Err answer) = []
-
--- the machine with these files
-abbrev pub with_files : Machine → FileMap → Machine
-with_files m files = record { files = files; device = m.device; draws = m.draws }
 
 -- what it comes to
 abbrev pub changing_line : Result Work Answer → Machine → Outcome
 changing_line given m = record {
   ending = ending_in given;
-  after = with_files m (files_then (changes_in given) m.files);
+  after = changed_machine (changes_in given) m;
   hashed = [];
-  stops = map (with_files m) (files_between (changes_in given) m.files);
+  stops = changed_stops (changes_in given) m;
 }
 
 -- the reply is that of the work, and the files are told as they are after all of its changes

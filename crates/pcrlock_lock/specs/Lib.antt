@@ -1,4 +1,4 @@
-pub mod FileChange
+pub mod Between
 pub mod Changing
 pub mod LockRaw
 pub mod MadeFiles

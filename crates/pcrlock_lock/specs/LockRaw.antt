@@ -8,7 +8,8 @@ use Rattle.pcrlock_answer.specs.Texts.{locked_text}
 use Rattle.pcrlock_line.specs.Content.{Content, Missing, TooLarge, Bytes, content_of}
 use Rattle.pcrlock_line.specs.Machine.{Machine}
 use Rattle.pcrlock_line.specs.Outcome.{Outcome}
-use Rattle.pcrlock_lock.specs.FileChange.{Sets}
+use Rattle.pcrlock_deeds.specs.Acts.{Written}
+use Rattle.pcrlock_deeds.specs.Deed.{keeps}
 use Rattle.pcrlock_lock.specs.Changing.{Work, changing_line}
 
 -- the most bytes that are measured
@@ -27,7 +28,7 @@ too_large size = said.Limit (codes "raw-bytes") size
 abbrev pub raw_by : List ℕ → ℕ → List ℕ → Content → Result Work Answer
 raw_by file pcr output Missing = Err (said.NoSuchFile file)
 raw_by file pcr output (TooLarge size) = Err (too_large size)
-raw_by file pcr output (Bytes bytes) = Ok (record { text = locked_text 1 None; changes = Sets output (raw_text pcr bytes) ∷ [] })
+raw_by file pcr output (Bytes bytes) = Ok (record { text = locked_text 1 None; changes = Written output (raw_text pcr bytes) keeps ∷ [] })
 
 -- `lock-raw`, of the file at the path
 abbrev pub lock_raw_line : List ℕ → ℕ → List ℕ → Machine → Outcome

@@ -4,7 +4,8 @@ use Rattle.cel_record.specs.ComponentText.{record_limit}
 use Rattle.cel_record.specs.Spelled.{spelled}
 use Rattle.component_make.specs.declared.locked.Locked.{Locked}
 use Rattle.pcrlock_lock.specs.declared.firmware_lock.MadeFile.{MadeFile}
-use Rattle.pcrlock_lock.specs.FileChange.{FileChange, Sets}
+use Rattle.pcrlock_deeds.specs.Acts.{FileStep, Written}
+use Rattle.pcrlock_deeds.specs.Deed.{keeps}
 use Rattle.pcrlock_lock.specs.LockFirmware.{Halves}
 
 abbrev pub halves : Locked → Halves
@@ -16,5 +17,5 @@ pub record AreFitting (l : Locked) : Type 0 where
   pub late : length l.late ≤ record_limit
 
 -- two files are written, one after the other
-abbrev pub both : MadeFile → MadeFile → List FileChange
-both a b = Sets a.path a.bytes.items ∷ Sets b.path b.bytes.items ∷ []
+abbrev pub both : MadeFile → MadeFile → List FileStep
+both a b = Written a.path a.bytes.items keeps ∷ Written b.path b.bytes.items keeps ∷ []

@@ -7,15 +7,16 @@ use Rattle.pcrlock_answer.specs.Texts.{unlocked_text}
 use Rattle.pcrlock_line.specs.Machine.{Machine}
 use Rattle.pcrlock_line.specs.Outcome.{Outcome}
 use Rattle.component_make.specs.declared.kind.FirmwareKind.{FirmwareKind}
-use Rattle.pcrlock_lock.specs.FileChange.{FileChange, Removes}
+use Rattle.pcrlock_deeds.specs.Acts.{FileStep, Removed}
+use Rattle.pcrlock_deeds.specs.Deed.{keeps}
 use Rattle.pcrlock_lock.specs.Changing.{Work, changing_line}
 use Rattle.component_make.specs.FirmwareFiles.{early_path, late_path}
 
 -- the files at the paths are taken out one after the other; a path at which none stands is passed over
-abbrev pub removals : List (List ℕ) → FileMap → List FileChange
+abbrev pub removals : List (List ℕ) → FileMap → List FileStep
 removals [] files = []
 removals (path ∷ more) files =
-    if is_some (get files path) then Removes path ∷ removals more (remove files path) else removals more files
+    if is_some (get files path) then Removed path keeps ∷ removals more (remove files path) else removals more files
 
 -- how many of the two were there
 abbrev pub counted : Bool → Bool → ℕ

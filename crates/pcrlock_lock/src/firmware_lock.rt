@@ -15,16 +15,17 @@ ghost use Rattle.pcrlock_line.specs.Machine.{Machine, Tells};
 ghost use Rattle.pcrlock_line.specs.Outcome.{Gives};
 ghost use Rattle.pcrlock_line.specs.Stopped.{StandsAmong};
 ghost use Rattle.pcrlock_input.specs.Answering.{Answers};
-ghost use Rattle.pcrlock_lock.specs.FileChange.{files_then, files_between, HoldsOneOf};
+ghost use Rattle.pcrlock_deeds.specs.Acts.{files_then, files_between};
+ghost use Rattle.pcrlock_lock.specs.Between.{HoldsOneOf};
 ghost use Rattle.pcrlock_lock.specs.Changing.{IsDone, changes_in};
 ghost use Rattle.component_make.specs.FirmwareFiles.{early_path as path_of_early, late_path as path_of_late};
 ghost use Rattle.pcrlock_lock.specs.MadeFiles.{made_text as text_of_made};
-ghost use Rattle.pcrlock_lock.specs.LockFirmware.{rows_in, locked_of, halves_in, written, lock_firmware_line, too_many as answer_of_many};
+ghost use Rattle.pcrlock_lock.specs.LockFirmware.{rows_in, locked_of, halves_in, written, lock_firmware_line};
 ghost use Rattle.pcrlock_lock.specs.Made.{halves, both, AreFitting};
 
 use cel_record::CelRecord;
 use component_make::{FirmwareKind, LockError, Locked, component_text, early_path, late_path};
-use pcrlock_answer::{Answer, locked_line};
+use pcrlock_answer::{Answer, limit, locked_line};
 use pcrlock_input::{InputError, read_firmware_log};
 use pcrlock_line::{Reply, Stop, replace_file};
 use pl_base::{Files, List, Memory, Name};
@@ -38,16 +39,6 @@ struct MadeFile {
     bytes: Vec<u8>,
 }
 
-/// The answer where a component file can't hold all records.
-fn too_many(alloc: Global) -> Result<Answer, Memory>
-    ensures { IfOk result (λ answer. answer ≡ answer_of_many) }
-{
-    Ok(Answer::Limit {
-        kind: Name::from_text(alloc, "records")?,
-        number: 257,
-    })
-}
-
 /// The records of the two files, by the log.
 fn lock_log(alloc: Global, kind: FirmwareKind, log: &FirmwareLog) -> Result<Locked, InputError>
     requires { IsWritable log.now }
@@ -58,7 +49,7 @@ fn lock_log(alloc: Global, kind: FirmwareKind, log: &FirmwareLog) -> Result<Lock
     match component_make::lock_firmware(alloc, log, kind.pcrs()) {
         Ok(locked) => Ok(locked),
         Err(LockError::NoSeparator(pcr)) => Err(InputError::Refused(Answer::NoSeparator(pcr))),
-        Err(LockError::TooMany) => Err(InputError::Refused(too_many(alloc)?)),
+        Err(LockError::TooMany) => Err(InputError::Refused(limit(alloc, "records", 257)?)),
         Err(LockError::Memory) => Err(InputError::Memory),
     }
 }

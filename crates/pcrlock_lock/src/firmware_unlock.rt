@@ -1,38 +1,21 @@
 //! `unlock-firmware-code` and `unlock-firmware-config`: the files of a lock are taken out.
-ghost use Rattle.std.specs.Prelude.{◌≡◌, ◌⊎◌, ◌∷◌, [], ℕ, length, is_some, List as Sequence, Option as Maybe, Some, Ok, IfOk, IfErr};
-ghost use Rattle.std.specs.FinMap.{get, remove};
+ghost use Rattle.std.specs.Prelude.{◌≡◌, ◌∷◌, [], ℕ, length, List as Sequence, Option as Maybe, Some, Ok, IfOk, IfErr};
 ghost use Rattle.pl_base.specs.FileMap.{FileMap};
 ghost use Rattle.tpm_device.specs.Stored.{Stored};
 ghost use Rattle.pcrlock_line.specs.Causes.{HasCauses};
 ghost use Rattle.pcrlock_line.specs.Machine.{Machine, Tells};
 ghost use Rattle.pcrlock_line.specs.Outcome.{Gives};
 ghost use Rattle.pcrlock_line.specs.Stopped.{StandsAmong};
-ghost use Rattle.pcrlock_lock.specs.FileChange.{files_then, files_between, HoldsOneOf};
+ghost use Rattle.pcrlock_deeds.specs.Acts.{files_then, files_between};
+ghost use Rattle.pcrlock_lock.specs.Between.{HoldsOneOf};
 ghost use Rattle.pcrlock_lock.specs.Changing.{IsDone, changes_in};
 ghost use Rattle.pcrlock_lock.specs.UnlockFirmware.{counted, removals, removed, unlock_firmware_line};
 
 use component_make::{FirmwareKind, early_path, late_path};
 use pcrlock_answer::unlocked_line;
-use pcrlock_line::{Reply, Stop};
-use pl_base::{Files, Name, RemoveError};
+use pcrlock_line::{Reply, Stop, remove_file};
+use pl_base::{Files, Name};
 use std::alloc::Global;
-
-/// Takes the file at the path out, and tells whether it was there. After a stop it is there as before,
-/// or gone.
-fn remove_file<F: Files>(alloc: Global, files: &mut F, path: &Name) -> Result<bool, Stop>
-    ensures causes { HasCauses (F.faults files.old, 0, 0, 0) (F.faults files.new, 0, 0, 0) result }
-    ensures was { (held : FileMap) → F.held files.old ≡ Some held → IfOk result (λ was. was ≡ is_some (get held path.now)) }
-    ensures told { (held : FileMap) → F.held files.old ≡ Some held → IfOk result (λ _. F.held files.new ≡ Some (remove held path.now)) }
-    ensures stops { (held : FileMap) → F.held files.old ≡ Some held
-        → IfErr result (λ _. (F.held files.new ≡ Some held) ⊎ (F.held files.new ≡ Some (remove held path.now))) }
-{
-    match files.remove(alloc, path.text()) {
-        Ok(()) => Ok(true),
-        Err(RemoveError::Missing) => Ok(false),
-        Err(RemoveError::Failed) => Err(Stop::WriteFault),
-        Err(RemoveError::Memory) => Err(Stop::Memory),
-    }
-}
 
 /// How many of the two there were.
 fn count(first: bool, second: bool) -> u32
@@ -45,8 +28,8 @@ fn count(first: bool, second: bool) -> u32
 fn remove_both<F: Files>(
     alloc: Global,
     files: &mut F,
-    first: &Name,
-    second: &Name,
+    first: &str,
+    second: &str,
 ) -> Result<u32, Stop>
     ensures causes { HasCauses (F.faults files.old, 0, 0, 0) (F.faults files.new, 0, 0, 0) result }
     ensures number { (held : FileMap) → F.held files.old ≡ Some held
@@ -69,8 +52,8 @@ fn remove_both<F: Files>(
 fn unlock_paths<F: Files>(
     alloc: Global,
     files: &mut F,
-    first: &Name,
-    second: &Name,
+    first: &str,
+    second: &str,
 ) -> Result<Reply, Stop>
     ensures causes { HasCauses (F.faults files.old, 0, 0, 0) (F.faults files.new, 0, 0, 0) result }
     ensures told { (held : FileMap) → F.held files.old ≡ Some held
@@ -112,5 +95,5 @@ pub fn unlock_firmware<F: Files>(
     let Ok(second) = late_path(alloc, kind, folder, variant) else {
         return Err(Stop::Memory);
     };
-    unlock_paths(alloc, files, &first, &second)
+    unlock_paths(alloc, files, first.text(), second.text())
 }

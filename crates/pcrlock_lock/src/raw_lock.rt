@@ -7,12 +7,13 @@ ghost use Rattle.pcrlock_line.specs.Content.{content_found, Bytes};
 ghost use Rattle.pcrlock_line.specs.Machine.{Machine, Tells};
 ghost use Rattle.pcrlock_line.specs.Outcome.{Gives};
 ghost use Rattle.pcrlock_line.specs.Stopped.{StandsAmong};
-ghost use Rattle.pcrlock_lock.specs.FileChange.{files_between, HoldsOneOf};
+ghost use Rattle.pcrlock_deeds.specs.Acts.{files_between};
+ghost use Rattle.pcrlock_lock.specs.Between.{HoldsOneOf};
 ghost use Rattle.pcrlock_lock.specs.Changing.{IsDone, changes_in};
-ghost use Rattle.pcrlock_lock.specs.LockRaw.{raw_text as text_of_raw, too_large as answer_of_large, raw_by, lock_raw_line};
+ghost use Rattle.pcrlock_lock.specs.LockRaw.{raw_text as text_of_raw, raw_by, lock_raw_line};
 
 use component_make::{component_text, raw};
-use pcrlock_answer::{Answer, locked_line};
+use pcrlock_answer::{limit, locked_line, no_such_file};
 use pcrlock_line::{Found, Reply, Stop, read_file, replace_file};
 use pl_base::{Files, Memory, Name};
 use std::alloc::Global;
@@ -27,23 +28,6 @@ fn raw_text(alloc: Global, pcr: u8, bytes: &[u8]) -> Result<Vec<u8>, Memory>
     ensures { IfOk result (λ text. text.items ≡ text_of_raw pcr bytes.now) }
 {
     component_text(alloc, &[raw(pcr, bytes)])
-}
-
-/// The answer where no file stands at the path.
-fn no_such_file(alloc: Global, path: &Name) -> Result<Answer, Memory>
-    ensures { IfOk result (λ answer. answer ≡ Answer.NoSuchFile path.now) }
-{
-    Ok(Answer::NoSuchFile(path.copy(alloc)?))
-}
-
-/// The answer where a file of too many bytes stands there.
-fn too_large(alloc: Global, size: u64) -> Result<Answer, Memory>
-    ensures { IfOk result (λ answer. answer ≡ answer_of_large size) }
-{
-    Ok(Answer::Limit {
-        kind: Name::from_text(alloc, "raw-bytes")?,
-        number: size,
-    })
 }
 
 /// Writes the file of the bytes' record.
@@ -90,11 +74,11 @@ fn lock_found<F: Files>(
         → IfErr result (λ _. HoldsOneOf (F.held files.new) (files_between (changes_in (raw_by file.now pcr output.now (content_found found.now))) held)) }
 {
     match found {
-        Found::Missing => match no_such_file(alloc, file) {
+        Found::Missing => match no_such_file(alloc, file.text()) {
             Ok(answer) => Ok(Reply::Refused(answer)),
             Err(_) => Err(Stop::Memory),
         },
-        Found::TooLarge(size) => match too_large(alloc, *size) {
+        Found::TooLarge(size) => match limit(alloc, "raw-bytes", *size) {
             Ok(answer) => Ok(Reply::Refused(answer)),
             Err(_) => Err(Stop::Memory),
         },

@@ -40,28 +40,29 @@ use Rattle.policy_session.specs.IndexReads.{read_found, read_written}
 use Rattle.policy_session.specs.LiteralUnseal.{opened_by}
 use Rattle.pcrlock_answer.specs.declared.answer.Answer.TheVariants as said
 use Rattle.pcrlock_open.specs.Bound.{bound_by, chosen_strings, held_by, object_opened, plain_tables, walk_opened}
-use Rattle.pcrlock_open.specs.BoundEndings.{IsBy, IsChoice, IsOutdated, result_answer}
+use Rattle.pcrlock_open.specs.BoundEndings.{IsBy, IsChoice, IsOutdated}
+use Rattle.pcrlock_open.specs.UnsealAnswers.{result_answer}
 
 -- ---- the client's result
 
-by_object : (policy : List ℕ) (handle : ℕ) (o : Option Object) → result_answer (opened_by policy handle o) ≡ object_opened policy handle o
+by_object : (policy : List ℕ) (handle : ℕ) (o : Option Object) → result_answer None (opened_by policy handle o) ≡ object_opened policy handle o
 by_object policy handle None = refl
 by_object policy handle (Some object) = by_test (bytes_eq policy object.policy)
   where
-    by_test : (same : Bool) → result_answer (cond same (Ok object.secret) (Err (error.WrongBinding policy object.policy)))
+    by_test : (same : Bool) → result_answer None (cond same (Ok object.secret) (Err (error.WrongBinding policy object.policy)))
         ≡ cond same (Ok object.secret) (Err (said.WrongBinding policy object.policy))
     by_test true = refl
     by_test false = refl
 
-by_end : (bank : Bank) (public : NvPublic) (handle : ℕ) (s : Parts) (end : End) → result_answer (opened_behind bank public handle s end) ≡ walk_opened bank public handle s end
+by_end : (bank : Bank) (public : NvPublic) (handle : ℕ) (s : Parts) (end : End) → result_answer None (opened_behind bank public handle s end) ≡ walk_opened bank public handle s end
 by_end bank public handle s (past_rows digest) = by_object (policy_authorize_nv_of Sha256 (index_name_of public)) handle (object_at handle s.objects)
 by_end bank public handle s (at_row pcrs) = refl
 
-pub same_bound : (bank : Bank) (public : NvPublic) (handle : ℕ) (end : End) (s : Parts) → result_answer (opened_bound bank public handle end s) ≡ bound_by bank public handle s end
+pub same_bound : (bank : Bank) (public : NvPublic) (handle : ℕ) (end : End) (s : Parts) → result_answer None (opened_bound bank public handle end s) ≡ bound_by bank public handle s end
 same_bound bank public handle end s = by_tests (nat_le 64 (length s.sessions)) (nat_le 0x01000000 s.next_session) (has_bank s.banks bank)
   where
     by_tests : (full ended present : Bool)
-        → result_answer (cond full (Err error.SessionsFull) (cond ended (Err error.HandlesEnd) (cond present (opened_behind bank public handle s end) (Err (error.BankAbsent bank)))))
+        → result_answer None (cond full (Err error.SessionsFull) (cond ended (Err error.HandlesEnd) (cond present (opened_behind bank public handle s end) (Err (error.BankAbsent bank)))))
         ≡ cond full (Err said.SessionsFull) (cond ended (Err (said.Limit (codes "handles") 0x01000000)) (cond present (walk_opened bank public handle s end) (Err (said.BankAbsent bank))))
     by_tests true ended present = refl
     by_tests false true present = refl

@@ -1,6 +1,6 @@
 -- What was opened by a policy is the outcome of the definition.
 use Rattle.std.proofs.Common.{◌≡◌, ℕ, Bool, true, List, inl, refl, sym, ap, subst, ◌∙◌}
-use Rattle.std.specs.Prelude.{Option, Some, Result, Ok, Err, IfOk, IfErr}
+use Rattle.std.specs.Prelude.{Option, None, Some, Result, Ok, Err, IfOk, IfErr}
 use Rattle.pl_base.specs.FileMap.{FileMap}
 use Rattle.hash_bank.specs.declared.bank.Bank.{Bank}
 use Rattle.nv_index.specs.declared.index.NvPublic.{NvPublic}
@@ -12,7 +12,7 @@ use Rattle.tpm_model.specs.Rules.{HasRules}
 use Rattle.policy_session.specs.declared.error.UnsealError.{UnsealError}
 use Rattle.policy_session.specs.declared.index.IndexError.{IndexError}
 use Rattle.policy_session.specs.Answers.{is_answer}
-use Rattle.policy_session.specs.BoundUnseal.{opened_bound}
+use Rattle.policy_session.specs.BoundUnseal.{IsNeverLiteral, opened_bound}
 use Rattle.policy_session.specs.Kept.{Kept}
 use Rattle.policy_session.specs.LiteralUnseal.{after_unseal}
 use Rattle.policy_session.specs.Ran.{Gives, Ran}
@@ -24,21 +24,27 @@ use Rattle.pcrlock_line.specs.Outcome as line
 use Rattle.pcrlock_line.specs.Outcome.{ending_of}
 use Rattle.pcrlock_line.specs.Stopped.{StandsAt, StandsAmong}
 use Rattle.pcrlock_open.specs.Bound.{bound_by, bound_on, held_after, held_by, held_ending, held_opened, opened_by_held, secret_ending}
-use Rattle.pcrlock_open.specs.BoundEndings.{IsEnded, IsOpenedSo, result_answer}
+use Rattle.pcrlock_open.specs.BoundEndings.{IsEnded, IsOpenedSo}
+use Rattle.pcrlock_open.specs.UnsealAnswers.{IsResultFor, result_answer}
 use Rattle.pcrlock_open.proofs.BoundEnds.{same_bound}
 use Rattle.pcrlock_open.proofs.Stops.{kept_after}
+
+-- no refusal of a key that is bound to an index shows the value of a literal
+pub never_for : (opened : Result (List ℕ) UnsealError) → IfErr opened IsNeverLiteral → IsResultFor None opened
+never_for (Ok secret) never why e = absurd (cc e)
+never_for (Err given) never why e = let same : given ≡ why = cc in subst IsNeverLiteral same never
 
 -- the secret or the answer for a walk's result
 pub opened_so : (bank : Bank) (public : NvPublic) (handle : ℕ) (s : Parts) (end foreseen : End) (opened : Result (List ℕ) UnsealError) (result : Result (Result (List ℕ) Answer) Stop) (ready : Bool) (live : Option Parts) (stored : Option Stored)
     (expected : Result (List ℕ) Answer) (after : Parts)
     → Ran s true (Gives (opened_bound bank public handle end s) (after_unseal s)) opened ready live stored → HasRules (after_unseal s)
-    → IfOk result (λ r. (r ≡ result_answer opened) × (is_answer opened ≡ true)) → end ≡ foreseen → expected ≡ bound_by bank public handle s foreseen → after ≡ after_unseal s
+    → IfOk result (λ r. (r ≡ result_answer None opened) × (is_answer opened ≡ true)) → end ≡ foreseen → expected ≡ bound_by bank public handle s foreseen → after ≡ after_unseal s
     → IfOk result (λ r. IsOpenedSo expected after r ready live stored)
 opened_so bank public handle s end foreseen opened (Err stop) ready live stored expected after ran rules told same e f = tt
 opened_so bank public handle s end foreseen opened (Ok r) ready live stored expected after ran rules told same e f =
     let a = ran.answered told.1 in
     record {
-      is = told.0 ∙ ap result_answer a.good.0 ∙ same_bound bank public handle end s ∙ ap (bound_by bank public handle s) same ∙ sym e;
+      is = told.0 ∙ ap (result_answer None) a.good.0 ∙ same_bound bank public handle end s ∙ ap (bound_by bank public handle s) same ∙ sym e;
       readiness = a.readiness;
       now = a.is.now ∙ ap Some (a.good.1 ∙ sym f);
       stored = a.is.same refl ∙ ap (λ n. Some (Holds n)) (a.good.1 ∙ sym f);

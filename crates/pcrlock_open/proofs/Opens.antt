@@ -4,7 +4,7 @@ use Rattle.std.specs.Prelude.{Option, None, Some, Result, Ok, Err, IfOk}
 use Rattle.std.specs.Str.{bytes_eq}
 use Rattle.std.proofs.lemmas.Bool.{lt-leb}
 use Rattle.std.proofs.lemmas.Slice.Eq.{bytes_eq-Decides}
-use Rattle.std.proofs.lemmas.List.Elements.{Contains-append_right}
+use Rattle.std.proofs.lemmas.List.Elements.{Contains-append_left, Contains-append_right}
 use Rattle.hash_bank.specs.HashedString.{HashedString, NoClash}
 use Rattle.policy_file.specs.declared.token.Literal.{Literal}
 use Rattle.policy_file.specs.declared.token.Token.TheVariants as token
@@ -26,6 +26,12 @@ use Rattle.pcrlock_open.specs.Unseal.{unseal_line, content_line, token_line, lit
 use Rattle.pcrlock_open.specs.Headline.{IsEnrolled, IsSafe, OpensExactly}
 
 -- strings that don't clash among more don't clash
+pub safe_left : (xs ys : List HashedString) → NoClash (Contains (xs ++ ys)) → NoClash (Contains xs)
+safe_left xs ys safe = record {
+  distinct = λ s t h k. safe.distinct s t (Contains-append_left xs ys s h) (Contains-append_left xs ys t k);
+  nonzero = λ s h. safe.nonzero s (Contains-append_left xs ys s h);
+}
+
 pub safe_right : (xs ys : List HashedString) → NoClash (Contains (xs ++ ys)) → NoClash (Contains ys)
 safe_right xs ys safe = record {
   distinct = λ s t h k. safe.distinct s t (Contains-append_right xs ys s h) (Contains-append_right xs ys t k);

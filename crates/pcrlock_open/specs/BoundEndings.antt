@@ -1,5 +1,5 @@
 -- The client's result of an unseal of a bound object, as the end of the command.
-use Rattle.std.specs.Prelude.{◌≡◌, ℕ, Bool, true, List, drop, codes, Option, None, Some, Result, Ok, Err}
+use Rattle.std.specs.Prelude.{◌≡◌, ℕ, Bool, true, List, drop, Option, None, Some, Result, Ok, Err}
 use Rattle.or_tree.specs.Plan.{plan_of}
 use Rattle.policy_digest.specs.declared.table.Table.{Table}
 use Rattle.policy_digest.specs.Plain.{plain_table}
@@ -13,8 +13,6 @@ use Rattle.policy_walk.specs.Places.{Ready}
 use Rattle.tpm_device.specs.Stored.{Stored, Holds}
 use Rattle.tpm_model.specs.declared.parts.Parts.{Parts}
 use Rattle.tpm_model.specs.Rules.{HasRules}
-use Rattle.policy_session.specs.declared.error.UnsealError.{UnsealError}
-use Rattle.policy_session.specs.declared.error.UnsealError.TheVariants as error
 use Rattle.pcrlock_answer.specs.declared.answer.Answer.{Answer}
 use Rattle.pcrlock_answer.specs.declared.answer.Answer.TheVariants as said
 use Rattle.pcrlock_line.specs.declared.reply.Reply.{Reply}
@@ -29,24 +27,6 @@ pub record IsBy (policy : Policy) (content : List ℕ) (ready : Ready) : Type 0 
   pub plan : ready.plan ≡ plan_of (plain_table table)
   pub index : ready.index ≡ policy.handle
   pub content_is : content ≡ content_of (root_of (plain_table table))
-
--- the answer by why nothing was opened. A refusal that shows a literal's value comes for keys that are sealed to
--- one value alone; a fault and want of memory are no answers
-abbrev pub error_answer : UnsealError → Answer
-error_answer error.SessionsFull = said.SessionsFull
-error_answer error.HandlesEnd = said.Limit (codes "handles") 0x01000000
-error_answer (error.BankAbsent bank) = said.BankAbsent bank
-error_answer (error.NotForeseen pcrs now) = said.NotForeseen pcrs now
-error_answer (error.NotLiteral now) = said.TpmFault
-error_answer (error.NoObject object) = said.NoObject object
-error_answer (error.WrongBinding session object) = said.WrongBinding session object
-error_answer error.Failed = said.TpmFault
-error_answer error.Memory = said.Memory
-
--- the secret, or the answer
-abbrev pub result_answer : Result (List ℕ) UnsealError → Result (List ℕ) Answer
-result_answer (Ok secret) = Ok secret
-result_answer (Err why) = Err (error_answer why)
 
 -- this is the secret or the answer, and the device is ready with this state, which it stores and which has its rules
 pub record IsOpenedSo (opened : Result (List ℕ) Answer) (after : Parts) (result : Result (List ℕ) Answer) (ready : Bool) (live : Option Parts) (kept : Option Stored) : Type 0 where

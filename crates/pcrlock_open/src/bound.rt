@@ -6,78 +6,27 @@ ghost use Rattle.nv_index.specs.declared.index.NvPublic.{NvPublic as Public};
 ghost use Rattle.pl_base.specs.FileMap.{FileMap};
 ghost use Rattle.policy_file.specs.PolicyText.{IsPolicy};
 ghost use Rattle.policy_file.specs.TokenText.{IsObject};
-ghost use Rattle.policy_session.specs.Answers.{is_answer, is_refusal};
-ghost use Rattle.policy_session.specs.BoundUnseal.{IsNeverLiteral};
 ghost use Rattle.policy_session.specs.Kept.{Kept};
 ghost use Rattle.tpm_device.specs.Stored.{Holds};
 ghost use Rattle.tpm_model.specs.declared.parts.Parts.{Parts};
 ghost use Rattle.tpm_model.specs.Rules.{HasRules};
 ghost use Rattle.pcrlock_line.specs.Causes.{HasCauses};
 ghost use Rattle.pcrlock_line.specs.Machine.{Machine, Tells};
-ghost use Rattle.pcrlock_line.specs.Outcome.{Gives, ending_of};
+ghost use Rattle.pcrlock_line.specs.Outcome.{Gives};
 ghost use Rattle.pcrlock_answer.specs.declared.answer.Answer.TheVariants as said;
 ghost use Rattle.pcrlock_line.specs.Stopped.{StandsAmong};
-ghost use Rattle.pcrlock_open.specs.Bound.{bound_line, held_after, held_by, held_ending, held_opened, held_strings, secret_ending};
-ghost use Rattle.pcrlock_open.specs.BoundEndings.{IsChoice, IsEnded, IsOpenedSo, IsOutdated, error_answer, result_answer};
-ghost use Rattle.pcrlock_open.specs.Endings.{IsStopAfter, IsStopFor};
+ghost use Rattle.pcrlock_open.specs.Bound.{bound_line, held_after, held_by, held_ending, held_opened, held_strings};
+ghost use Rattle.pcrlock_open.specs.BoundEndings.{IsChoice, IsEnded, IsOpenedSo, IsOutdated};
 
-use crate::answers::limit;
+use crate::answers::{secret_or_answer, secret_reply};
 use hash_bank::Digest;
-use pcrlock_answer::{Answer, key_line};
+use pcrlock_answer::Answer;
 use pcrlock_line::{Reply, Stop, ready};
 use pl_base::{Name, Small};
 use policy_file::Policy;
-use policy_session::{
-    IndexError, PrepareError, Prepared, UnsealError, prepare, read_index, unseal_bound,
-};
+use policy_session::{IndexError, PrepareError, Prepared, prepare, read_index, unseal_bound};
 use std::alloc::Global;
 use tpm_device::Tpm;
-
-/// The answer for a refusal.
-fn refused(alloc: Global, error: &UnsealError) -> Result<Answer, Stop>
-    requires { IsNeverLiteral error.now }
-    ensures told { IfOk result (λ answer. (answer ≡ error_answer error.now) × (is_refusal error.now ≡ true)) }
-    ensures cause { IfErr result (λ stop. IsStopFor error.now stop) }
-{
-    match error {
-        UnsealError::SessionsFull => Ok(Answer::SessionsFull),
-        UnsealError::HandlesEnd => match limit(alloc, "handles", 0x0100_0000) {
-            Ok(answer) => Ok(answer),
-            Err(_) => Err(Stop::Memory),
-        },
-        UnsealError::BankAbsent(bank) => Ok(Answer::BankAbsent(*bank)),
-        UnsealError::NotForeseen { pcrs, now } => Ok(Answer::NotForeseen {
-            pcrs: *pcrs,
-            now: *now,
-        }),
-        UnsealError::NotLiteral { .. } => unreachable!(),
-        UnsealError::NoObject(object) => Ok(Answer::NoObject(*object)),
-        UnsealError::WrongBinding { session, object } => Ok(Answer::WrongBinding {
-            session: *session,
-            object: *object,
-        }),
-        UnsealError::Failed => Err(Stop::TpmFault),
-        UnsealError::Memory => Err(Stop::Memory),
-    }
-}
-
-/// The secret that the client was given, or the answer for its refusal.
-fn secret_or_answer(
-    alloc: Global,
-    opened: &Result<Small, UnsealError>,
-) -> Result<Result<Small, Answer>, Stop>
-    requires { IfErr opened.now IsNeverLiteral }
-    ensures told { IfOk result (λ secret. (secret ≡ result_answer opened.now) × (is_answer opened.now ≡ true)) }
-    ensures cause { IfErr result (λ stop. IsStopAfter opened.now stop) }
-{
-    match opened {
-        Ok(secret) => Ok(Ok(*secret)),
-        Err(error) => match refused(alloc, error) {
-            Ok(answer) => Ok(Err(answer)),
-            Err(stop) => Err(stop),
-        },
-    }
-}
 
 /// The answer where the index holds the root of none of the tables.
 fn outdated(content: &Small, newest: &Digest) -> Result<Answer, Stop>
@@ -145,7 +94,7 @@ fn secret_by<T: Tpm>(
     match choose(alloc, policy, content) {
         Ok(Ok(prepared)) => {
             let opened = unseal_bound(alloc, tpm, prepared, object);
-            secret_or_answer(alloc, &opened)
+            secret_or_answer(alloc, None, &opened)
         }
         Ok(Err(answer)) => Ok(Err(answer)),
         Err(stop) => Err(stop),
@@ -196,20 +145,6 @@ pub fn open_secret<T: Tpm>(
         Err(IndexError::Unwritten) => Ok(Err(Answer::UnwrittenIndex(policy.handle))),
         Err(IndexError::Failed) => Err(Stop::TpmFault),
         Err(IndexError::Memory) => Err(Stop::Memory),
-    }
-}
-
-/// The line of the secret, or the answer.
-fn secret_reply(alloc: Global, opened: Result<Small, Answer>) -> Result<Reply, Stop>
-    ensures told { IfOk result (λ reply. ending_of reply ≡ secret_ending opened) }
-    ensures cause { IfErr result (λ stop. stop ≡ Stop.Memory) }
-{
-    match opened {
-        Ok(secret) => match key_line(alloc, &secret) {
-            Ok(line) => Ok(Reply::Fine(line)),
-            Err(_) => Err(Stop::Memory),
-        },
-        Err(answer) => Ok(Reply::Refused(answer)),
     }
 }
 

@@ -8,8 +8,7 @@ ghost use Rattle.pcrlock_open.specs.Unseal.{content_line, token_line, unseal_lin
 ghost use Rattle.std.specs.Prelude.{ℕ, List as Sequence};
 ghost use Rattle.policy_file.specs.TokenReading.{token_in};
 
-use crate::answers::limit;
-use pcrlock_answer::{Answer, Place};
+use pcrlock_answer::{Answer, limit, malformed_at};
 use pcrlock_line::{Found, Stop, read_file};
 use pl_base::{Files, Name};
 use policy_file::{FileError, Literal, Token, read_token};
@@ -34,20 +33,6 @@ pub(crate) enum TokenRead {
     Bound(u32),
 }
 
-/// The answer for a token file that is malformed from the place on.
-fn malformed(alloc: Global, path: &Name, place: u32) -> Result<TokenRead, Stop>
-    ensures told { IfOk result (λ read. read ≡ TokenRead.Refused (Answer.Malformed path.now (Place.At place))) }
-    ensures cause { IfErr result (λ stop. stop ≡ Stop.Memory) }
-{
-    match path.copy(alloc) {
-        Ok(path) => Ok(TokenRead::Refused(Answer::Malformed {
-            path,
-            place: Place::At(u64::from(place)),
-        })),
-        Err(_) => Err(Stop::Memory),
-    }
-}
-
 /// The answer where no token file stands.
 fn missing(alloc: Global, path: &Name) -> Result<TokenRead, Stop>
     ensures told { IfOk result (λ read. read ≡ TokenRead.Refused (Answer.NoToken path.now)) }
@@ -68,7 +53,10 @@ fn token_of(alloc: Global, path: &Name, bytes: &[u8]) -> Result<TokenRead, Stop>
     match read_token(bytes) {
         Ok(Token::Literal { object, literal }) => Ok(TokenRead::Literal { object, literal }),
         Ok(Token::Bound { object }) => Ok(TokenRead::Bound(object)),
-        Err(FileError::Malformed { place, .. }) => malformed(alloc, path, place),
+        Err(FileError::Malformed { place, .. }) => match malformed_at(alloc, path.text(), place) {
+            Ok(answer) => Ok(TokenRead::Refused(answer)),
+            Err(_) => Err(Stop::Memory),
+        },
         Err(FileError::Memory) => Err(Stop::Memory),
     }
 }
@@ -83,7 +71,7 @@ fn token_found(alloc: Global, path: &Name, found: &Found) -> Result<TokenRead, S
         Found::Missing => missing(alloc, path),
         Found::TooLarge(size) => match limit(alloc, "token-bytes", *size) {
             Ok(answer) => Ok(TokenRead::Refused(answer)),
-            Err(stop) => Err(stop),
+            Err(_) => Err(Stop::Memory),
         },
         Found::Bytes(bytes) => token_of(alloc, path, bytes),
     }

@@ -1,47 +1,18 @@
 -- The ends of commands that look and print.
-use Rattle.std.proofs.Common.{◌≡◌, ℕ, ◌≤◌, List, sym, ap, ◌∙◌, subst, arith}
-use Rattle.std.specs.Prelude.{Option, Result, Ok, Err, IfOk, IfErr}
+use Rattle.std.proofs.Common.{◌≡◌, ℕ, List, sym, ap, ◌∙◌, arith}
+use Rattle.std.specs.Prelude.{Option, Result, Ok, Err, IfOk}
 use Rattle.pl_base.specs.FileMap.{FileMap}
 use Rattle.pl_base.specs.Faults.{HasCause}
 use Rattle.tpm_device.specs.Stored.{Stored}
 use Rattle.pcrlock_answer.specs.declared.answer.Answer.{Answer}
 use Rattle.pcrlock_line.specs.declared.reply.Reply.{Reply}
 use Rattle.pcrlock_line.specs.declared.stop.Stop.{Stop}
-use Rattle.pcrlock_line.specs.declared.stop.Stop.TheVariants as stop
-use Rattle.pcrlock_line.specs.Causes.{Counts, HasCauses, IsCaused}
+use Rattle.pcrlock_line.specs.Causes.{HasCauses}
 use Rattle.pcrlock_line.specs.Machine.{Machine, Tells}
 use Rattle.pcrlock_line.specs.Outcome.{Refused, Gives, ending_of}
-use Rattle.pcrlock_line.proofs.Composed.{then, then_stops, on_tpm}
+use Rattle.pcrlock_line.proofs.Composed.{then, on_tpm}
 use Rattle.pcrlock_input.specs.Answering.{◌>>=◌}
 use Rattle.pcrlock_line.specs.Printing.{printed, printed_line}
-
--- what is made of an earlier step's result has its causes, if it stops for want of memory alone
-pub without_fault : {A B : Type 0} (a b : Counts) (first : Result A Stop) (second : Result B Stop) → HasCauses a b first → IfErr second (λ s. s ≡ stop.Memory) → HasCauses a b second
-without_fault {B = B} a b first second h k = record {
-  files = h.files;
-  entropy = h.entropy;
-  tpm = h.tpm;
-  out = h.out;
-  cause = by second k;
-}
-  where
-    by : (r : Result B Stop) → IfErr r (λ s. s ≡ stop.Memory) → (s : Stop) → r ≡ Err s → IsCaused a b s
-    by (Ok x) none s e = absurd (cc e)
-    by (Err given) is s e = let same : stop.Memory ≡ s = cc in subst (IsCaused a b) same tt
-
--- a stop behind steps of the TPM that went well
-pub later_stops : {B D : Type 0} (t u v : ℕ) (second : Result B Stop) (s : Stop) → t ≤ u → HasCauses (0, 0, u, 0) (0, 0, v, 0) second → second ≡ Err s
-    → HasCauses {A = D} (0, 0, t, 0) (0, 0, v, 0) (Err s)
-later_stops t u v second s le h e = then_stops (0, 0, t, 0) (0, 0, u, 0) (0, 0, v, 0) fine second s (record {
-  files = omega arith;
-  entropy = omega arith;
-  tpm = le;
-  out = omega arith;
-  cause = λ other is. absurd (cc is);
-}) h e
-  where
-    fine : Result Unit Stop
-    fine = Ok tt
 
 -- what was read before may have raised the count of the files
 pub files_read : {A : Type 0} (f h t u : ℕ) (failed : Type 0) (result : Result A Stop) → HasCause f h failed → HasCauses (0, 0, t, 0) (0, 0, u, 0) result

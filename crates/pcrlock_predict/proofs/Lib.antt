@@ -1,4 +1,3 @@
-pub mod PcrReads
 pub mod Left
 pub mod Ended
 pub mod BegunValues

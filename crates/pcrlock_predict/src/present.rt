@@ -2,57 +2,18 @@
 ghost use Rattle.std.specs.Prelude.{◌≡◌, ◌≤◌, ℕ, true, Some, length, IfOk, IfErr, IfSome};
 ghost use Rattle.hash_bank.specs.Hash.{size_in};
 ghost use Rattle.tpm_model.specs.declared.parts.Parts.{Parts};
-ghost use Rattle.tpm_model.specs.Pcrs.{pcr_of};
 ghost use Rattle.tpm_device.specs.Stored.{Stored, Holds};
 ghost use Rattle.pcrlock_line.specs.Causes.{HasCauses};
-ghost use Rattle.pcrlock_predict.specs.Present.{AreValues, asked_value as value_asked, present_of, reading_of, values_at, values_or_absent};
+ghost use Rattle.pcrlock_predict.specs.Present.{AreValues, asked_value as value_asked, present_of, values_at, values_or_absent};
 ghost use Rattle.pcrlock_line.specs.Running.{Runs};
 
 use hash_bank::{Bank, Digest};
-use pcrlock_line::{Stop, ask, ready};
+use pcrlock_line::{Stop, present_value, ready};
 use pcrlock_words::Answer;
 use pl_base::{List, Name};
 use policy_digest::is_in_mask;
 use std::alloc::Global;
 use tpm_device::Tpm;
-use tpm_model::{Command, Refusal, Response};
-
-/// What an answer to PcrRead tells: a value of the bank's length, or None where the bank isn't present.
-/// Every other answer, which no state gives, is taken as want of memory.
-fn reading(bank: Bank, response: &Response) -> Result<Option<Digest>, Stop>
-    ensures value { result ≡ reading_of bank response.now }
-    ensures size { IfOk result (λ found. IfSome found (λ value. length value ≡ size_in bank)) }
-    ensures cause { IfErr result (λ stop. stop ≡ Stop.Memory) }
-{
-    match response {
-        Response::Pcr(value) if value.as_slice().len() == bank.size() => Ok(Some(*value)),
-        Response::Refused(Refusal::BankAbsent(_)) => Ok(None),
-        _ => Err(Stop::Memory),
-    }
-}
-
-/// The present value of a PCR, or None where its bank isn't present (TPM 2.0 Library Part 3,
-/// TPM2_PCR_Read). The state stays as it is.
-fn present_value<T: Tpm>(
-    alloc: Global,
-    tpm: &mut T,
-    bank: Bank,
-    pcr: u8,
-) -> Result<Option<Digest>, Stop>
-    requires readiness { T.ready tpm.old ≡ true }
-    requires number { pcr ≤ 23 }
-    ensures causes { HasCauses (0, 0, T.faults tpm.old, 0) (0, 0, T.faults tpm.new, 0) result }
-    ensures readiness { IfOk result (λ _. T.ready tpm.new ≡ true) }
-    ensures size { IfOk result (λ found. IfSome found (λ value. length value ≡ size_in bank)) }
-    ensures told { (s : Parts) → Runs (T.live tpm.old) (T.stored tpm.old) s → IfOk result (λ found. found ≡ pcr_of s.banks s.pcrs bank pcr) }
-    ensures runs { (s : Parts) → Runs (T.live tpm.old) (T.stored tpm.old) s → IfOk result (λ _. Runs (T.live tpm.new) (T.stored tpm.new) s) }
-    ensures same { (s : Parts) → Runs (T.live tpm.old) (T.stored tpm.old) s → T.stored tpm.new ≡ Some (Holds s) }
-{
-    match ask(alloc, tpm, &Command::PcrRead { bank, pcr }) {
-        Ok(response) => reading(bank, &response),
-        Err(stop) => Err(stop),
-    }
-}
 
 /// The present value of a PCR that the mask asks for, and zeros for another one; None where the bank
 /// isn't present. The state stays as it is.

@@ -39,7 +39,7 @@ module _ (Files : FileRule) where
   check_proof_sound path folders window m w = tt
 
   prove_may : (output : List ℕ) (asked : Asked) (found : Result (List Proof) Answer) → MayChange Files output → AllMay Files (changes_in (found >>= λ proofs. Ok (written output asked proofs)))
-  prove_may output asked (Ok proofs) may = (may, tt)
+  prove_may output asked (Ok proofs) may = (refl, may, tt)
   prove_may output asked (Err answer) may = tt
 
   pub prove_sound : (output : List ℕ) (folders : List (List ℕ)) (window : Window) (asked : Asked) (m : Machine) (w : World) → MayChange Files output → IsSoundAct Files (prove_act output folders window asked m w) m w

@@ -18,7 +18,8 @@ use Rattle.pcrlock_line.specs.Outcome.{Outcome}
 use Rattle.pcrlock_input.specs.Answering.{◌>>=◌}
 use Rattle.pcrlock_input.specs.Components.{components_of}
 use Rattle.pcrlock_predict.specs.Predict.{no_digest}
-use Rattle.pcrlock_lock.specs.FileChange.{Sets}
+use Rattle.pcrlock_deeds.specs.Acts.{Written}
+use Rattle.pcrlock_deeds.specs.Deed.{keeps}
 use Rattle.pcrlock_lock.specs.Changing.{Work, changing_line}
 use Rattle.pcrlock_proofs.specs.declared.asked.Asked.{Asked}
 
@@ -57,7 +58,7 @@ proofs_of asked window folders files = components_of files folders >>= λ compon
 abbrev pub written : List ℕ → Asked → List Proof → Work
 written output asked proofs = record {
   text = proved_text (length proofs);
-  changes = Sets output (file_text (record { bank = asked.bank; locality = asked.locality; proofs = proofs })) ∷ [];
+  changes = Written output (file_text (record { bank = asked.bank; locality = asked.locality; proofs = proofs })) keeps ∷ [];
 }
 
 abbrev pub prove_work : List ℕ → List (List ℕ) → Window → Asked → FileMap → Result Work Answer

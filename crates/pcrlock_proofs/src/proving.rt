@@ -10,7 +10,8 @@ ghost use Rattle.pcrlock_line.specs.Machine.{Machine, Tells};
 ghost use Rattle.pcrlock_line.specs.Outcome.{Gives};
 ghost use Rattle.pcrlock_line.specs.Stopped.{StandsAmong};
 ghost use Rattle.pcrlock_input.specs.Answering.{Answers};
-ghost use Rattle.pcrlock_lock.specs.FileChange.{files_between, HoldsOneOf};
+ghost use Rattle.pcrlock_deeds.specs.Acts.{files_between};
+ghost use Rattle.pcrlock_lock.specs.Between.{HoldsOneOf};
 ghost use Rattle.pcrlock_lock.specs.Changing.{IsDone, changes_in};
 ghost use Rattle.predict_proof.specs.Words.{is_locality};
 ghost use Rattle.pcrlock_proofs.specs.Passes.{AreOf, Fit, FitOver, Passes};
@@ -23,7 +24,7 @@ use pcrlock_input::{InputError, read_components};
 use pcrlock_line::{Reply, Stop, replace_file};
 use pcrlock_predict::no_digest;
 use pl_base::{Files, List, Memory, Name};
-use policy_digest::is_in_mask;
+use policy_digest::{is_in_mask, mask_of_pcr};
 use predict_proof::{Proof, ProofFile, write_proofs};
 use predictor::{ForeseeError, Window};
 use std::alloc::Global;
@@ -60,16 +61,6 @@ fn proofs_for(
     }
 }
 
-/// The mask of one PCR.
-fn mask_of(pcr: u8) -> u32
-    requires { pcr ≤ 23 }
-    ensures value { result ≡ 2 ^ pcr }
-    ensures some { 0 < result }
-    ensures below { result < 2 ^ 24 }
-{
-    1 << pcr
-}
-
 /// The proofs of the values of one PCR.
 fn proofs_of_pcr(
     alloc: Global,
@@ -84,7 +75,7 @@ fn proofs_of_pcr(
     ensures few { IfOk result (λ list. length list ≤ 512) }
     ensures passing { IfOk result (AreOf 1 asked location.now (plain tree.now.components)) }
 {
-    proofs_for(alloc, tree, location, asked, mask_of(pcr))
+    proofs_for(alloc, tree, location, asked, mask_of_pcr(pcr))
 }
 
 /// Puts further proofs to the end of the list.

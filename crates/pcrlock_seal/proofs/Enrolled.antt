@@ -14,7 +14,7 @@ use Rattle.tpm_model.specs.Binding.{literal_policy}
 use Rattle.tpm_model.specs.ObjectCommands.{seal, is_policy_size, object_handle}
 use Rattle.tpm_model.specs.Pcrs.{pcr_of}
 use Rattle.tpm_model.specs.ObjectRules.{keeps_object_order}
-use Rattle.tpm_model.proofs.Ties.{tied_hashed}
+use Rattle.tpm_model.proofs.Ties.{none_found, tied_hashed, tied_object}
 use Rattle.std.proofs.lemmas.List.{map-append}
 use Rattle.std.specs.List.{Contains}
 use Rattle.std.proofs.lemmas.List.Elements.{Contains-append_left}
@@ -29,7 +29,7 @@ use Rattle.pcrlock_seal.specs.declared.condition.Condition.{Condition}
 use Rattle.pcrlock_seal.specs.declared.condition.Condition.TheVariants as conditions
 use Rattle.pcrlock_seal.specs.Enroll.{sealed_handle, token_written, with_key, with_value, literal_now, literal_hash, enrolled_line}
 use Rattle.pcrlock_seal.specs.EnrollWorld.{strings_of, sealed_or, key_world, with_key_world, value_world, enroll_world, key_state, value_state, enroll_state}
-use Rattle.pcrlock_seal.proofs.Objects.{none_found, tied_object, tied_sealed}
+use Rattle.pcrlock_seal.proofs.Objects.{tied_sealed}
 
 -- whatever the TPM answered, the state and the world go together
 abbrev Goes : List ℕ → Literal → World → Response × Parts → Type 0

@@ -1,4 +1,3 @@
-pub mod PcrReads
 pub mod Sealed
 pub mod Objects
 pub mod Enrolled

@@ -3,4 +3,3 @@ pub mod BoundWorld
 pub mod Condition
 pub mod Enroll
 pub mod EnrollWorld
-pub mod Values

@@ -6,7 +6,7 @@ ghost use Rattle.pcrlock_seal.specs.Condition.{IsCondition, condition_policy, co
 
 use hash_bank::Digest;
 use nv_index::{CONTENT_SIZE, NvPublic, WRITTEN_ATTRIBUTES, index_name};
-use policy_digest::{policy_authorize_nv, policy_pcr_in, values_digest_in};
+use policy_digest::{mask_of_pcr, policy_authorize_nv, policy_pcr_in, values_digest_in};
 use policy_file::{Literal, Policy, Token};
 
 /// Under what an object opens.
@@ -23,16 +23,6 @@ pub(crate) enum Condition {
     },
 }
 
-/// The mask of one PCR.
-#[tactic(auto, using(std::proofs::lemmas::Nat::pow_below))]
-fn mask_of(pcr: u8) -> u32
-    requires { pcr ≤ 23 }
-    ensures value { result ≡ 2 ^ pcr }
-    ensures bound { result < 2 ^ 24 }
-{
-    1 << pcr
-}
-
 /// The policy of a literal.
 #[tactic(auto, using(policy_session::proofs::OneValue::one_value))]
 fn policy_of_literal(literal: &Literal) -> Digest
@@ -44,7 +34,7 @@ fn policy_of_literal(literal: &Literal) -> Digest
         literal.hash,
         &Digest::zeros(literal.hash),
         literal.bank,
-        mask_of(literal.pcr),
+        mask_of_pcr(literal.pcr),
         &values,
     )
 }

@@ -25,11 +25,10 @@ ghost use Rattle.pcrlock_seal.specs.BoundWorld.{SealsToFiled};
 ghost use Rattle.pcrlock_seal.specs.Condition.{IsCondition, condition_token};
 
 use crate::condition::Condition;
-use crate::values::present_value;
 use hash_bank::Bank;
-use pcrlock_answer::{Answer, enrolled_line};
+use pcrlock_answer::{Answer, enrolled_line, limit};
 use pcrlock_deeds::needed_policy;
-use pcrlock_line::{Reply, Stop, ask, draw, ready, replace_file};
+use pcrlock_line::{Reply, Stop, ask, draw, present_value, ready, replace_file};
 use pl_base::{Entropy, Files, Memory, Name, Small};
 use policy_file::{Literal, Policy, write_token};
 use std::alloc::Global;
@@ -65,14 +64,8 @@ fn seal_refusal(alloc: Global, response: &Response) -> Result<Answer, Memory>
     ensures { IfOk result (λ answer. answer ≡ refusal_in response.now) }
 {
     match response {
-        Response::Refused(Refusal::HandlesEnd) => Ok(Answer::Limit {
-            kind: Name::from_text(alloc, "handles")?,
-            number: 0x0080_0000,
-        }),
-        _ => Ok(Answer::Limit {
-            kind: Name::from_text(alloc, "objects")?,
-            number: 65,
-        }),
+        Response::Refused(Refusal::HandlesEnd) => limit(alloc, "handles", 0x0080_0000),
+        _ => limit(alloc, "objects", 65),
     }
 }
 
@@ -209,10 +202,6 @@ fn with_device<F: Files, T: Tpm, E: Entropy>(
 {
     match present_value(alloc, tpm, bank, pcr) {
         Ok(Some(value)) => {
-            // A device that tells its state is ready still.
-            if !tpm.is_ready() {
-                return Err(Stop::Memory);
-            }
             let literal = Literal {
                 hash: literal_hash(bank),
                 bank,

@@ -3,6 +3,5 @@
 
 mod condition;
 mod enrolling;
-mod values;
 
 pub use crate::enrolling::{enroll, enroll_bound};

@@ -2,12 +2,12 @@ use Rattle.std.proofs.Common.{arith, take}
 use Rattle.tpm_worlds.specs.CommandLists.{state_after}
 use Rattle.pcrlock_exec.proofs.Lists.{text_next}
 use Rattle.pcrlock_exec.proofs.Steps.{part_way, runs_next}
-use Rattle.pcrlock_exec.proofs.Stands.{later_causes}
+use Rattle.pcrlock_line.proofs.Composed.{later_stops}
 use Rattle.pcrlock_exec.proofs.exec.send_all.Goals as goal
 
 pub returns-in-Err-clause-causes : goal.returns-in-Err-clause-causes
 returns-in-Err-clause-causes g c =
-    later_causes (g.T.Tpm.faults c.args.tpm.now) (g.T.Tpm.faults c.loop-command.tpm) (g.T.Tpm.faults c.send.new.tpm) c.send.result c.in-Err.stop
+    later_stops (g.T.Tpm.faults c.args.tpm.now) (g.T.Tpm.faults c.loop-command.tpm) (g.T.Tpm.faults c.send.new.tpm) c.send.result c.in-Err.stop
     c.loop-command.invariant.later c.send.ensures.causes c.in-Err.is
 
 pub returns-in-Err-clause-stops : goal.returns-in-Err-clause-stops

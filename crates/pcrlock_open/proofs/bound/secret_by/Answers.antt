@@ -6,7 +6,7 @@ use Rattle.policy_session.specs.BoundUnseal.{bound_end, foreseen_end}
 use Rattle.pcrlock_open.specs.Bound.{chosen_strings, held_after, held_strings, opened_by_held, plain_tables, table_after, table_opened}
 use Rattle.pcrlock_open.specs.BoundEndings.{IsChoice}
 use Rattle.pcrlock_open.proofs.BoundEnds.{held, is_prepared, own_among, walked_among}
-use Rattle.pcrlock_open.proofs.BoundGives.{kept_ran, opened_so}
+use Rattle.pcrlock_open.proofs.BoundGives.{kept_ran, never_for, opened_so}
 use Rattle.pcrlock_open.proofs.bound.secret_by.Goals as goal
 
 pub returns-in-Ok-Ok-clause-told : goal.returns-in-Ok-Ok-clause-told
@@ -35,3 +35,6 @@ returns-in-Ok-Ok-clause-kept g c = λ s public live stored rules is_held.
     let p = is_prepared policy content c.in-Ok-Ok.prepared public s b (held policy s public content is_held) in
     let ran = c.unseal_bound-opened.ensures.ran s b.table public true (record { now = live; same = λ _. stored }) p in
     kept_ran s _ c.unseal_bound-opened.result _ _ _ ran (c.unseal_bound-opened.ensures.rules s live)
+
+pub secret_or_answer-requires : goal.secret_or_answer-requires
+secret_or_answer-requires g c = never_for c.unseal_bound-opened.result c.unseal_bound-opened.ensures.never

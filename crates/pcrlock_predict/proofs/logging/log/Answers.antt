@@ -1,11 +1,11 @@
 use Rattle.std.proofs.Common.{◌≡◌, ◌∙◌, option_copied}
 use Rattle.std.specs.Prelude.{Err}
 use Rattle.pcrlock_line.specs.Machine.{Tells}
+use Rattle.pcrlock_line.proofs.Composed.{if_err}
 use Rattle.pcrlock_input.specs.declared.error.InputError.TheVariants as errors
 use Rattle.pcrlock_predict.specs.Inputs.{inputs_of, plain_inputs}
 use Rattle.pcrlock_predict.specs.Log.{logged_at}
 use Rattle.pcrlock_predict.proofs.Ended.{files_read, gives_found}
-use Rattle.pcrlock_predict.proofs.PcrReads.{if_err}
 use Rattle.pcrlock_predict.proofs.logging.log.Goals as goal
 
 pub returns-in-Ok-clause-causes : goal.returns-in-Ok-clause-causes

@@ -1,9 +1,10 @@
 use Rattle.std.proofs.Common.{sym, ap, ◌∙◌}
 use Rattle.std.specs.Prelude.{Ok}
+use Rattle.pcrlock_line.proofs.Composed.{without_fault}
 use Rattle.pcrlock_predict.specs.Inputs.{plain_inputs}
 use Rattle.pcrlock_predict.specs.Predict.{predicted}
 use Rattle.pcrlock_predict.specs.Present.{values_at}
-use Rattle.pcrlock_predict.proofs.Ended.{reply_found, reply_refused, without_fault}
+use Rattle.pcrlock_predict.proofs.Ended.{reply_found, reply_refused}
 use Rattle.pcrlock_predict.proofs.predicting.predict_from.Goals as goal
 
 pub returns-in-Ok-Ok-clause-causes : goal.returns-in-Ok-Ok-clause-causes

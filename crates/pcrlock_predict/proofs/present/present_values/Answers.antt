@@ -3,7 +3,7 @@ use Rattle.std.specs.List.{All}
 use Rattle.std.proofs.lemmas.List.{length_push}
 use Rattle.std.proofs.lemmas.List.Elements.{All-push, All-nil}
 use Rattle.hash_bank.specs.Hash.{size_in}
-use Rattle.pcrlock_predict.proofs.Ended.{later_stops}
+use Rattle.pcrlock_line.proofs.Composed.{later_stops}
 use Rattle.pcrlock_predict.proofs.Left.{before, left_absent, left_first, left_none, left_read, values_left}
 use Rattle.pcrlock_predict.proofs.present.present_values.Goals as goal
 

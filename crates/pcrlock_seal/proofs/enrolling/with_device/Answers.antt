@@ -11,4 +11,4 @@ returns-in-Err-clause-causes g c =
 pub returns-in-Err-clause-stops : goal.returns-in-Err-clause-stops
 returns-in-Err-clause-stops g c = λ m tells live.
     enrolled_first _ _ c.args.path.now c.args.pcr c.args.bank c.args.key m
-    (at_state _ _ _ m (record { files = tells.files; state = c.in-Err.ensures.stops m.state live tells.state; draws = tells.draws }))
+    (at_state _ _ _ m (record { files = tells.files; state = c.in-Err.ensures.same m.state (record { live = live; stored = tells.state }); draws = tells.draws }))

@@ -1,6 +1,6 @@
 -- What the TPM answers to a read of a PCR.
 use Rattle.std.proofs.Common.{◌≡◌, ◌⊎◌, ℕ, ◌≤◌, cond, List, length, inl, inr, refl, ap, ◌∙◌}
-use Rattle.std.specs.Prelude.{Option, None, Some, Result, Ok, Err, IfOk, IfErr}
+use Rattle.std.specs.Prelude.{Option, None, Some, Result, Ok, Err, IfOk}
 use Rattle.std.proofs.lemmas.Bool.{le-ltb, eq-eqb}
 use Rattle.hash_bank.specs.declared.bank.Bank.{Bank}
 use Rattle.hash_bank.specs.Hash.{size_in}
@@ -13,7 +13,7 @@ use Rattle.tpm_model.proofs.PcrPlaces.{value_at}
 use Rattle.tpm_device.specs.Stored.{Stored, Holds}
 use Rattle.pcrlock_line.specs.declared.stop.Stop.{Stop}
 use Rattle.pcrlock_line.specs.declared.stop.Stop.TheVariants as stop
-use Rattle.pcrlock_predict.specs.Present.{reading_of}
+use Rattle.pcrlock_line.specs.PcrAnswer.{reading_of}
 use Rattle.pcrlock_line.specs.Running.{Runs}
 
 -- a PCR's read answers its value, or that its bank is absent
@@ -43,14 +43,6 @@ read_tells bank pcr s small rules =
 pub told_by : (result given : Result (Option (List ℕ)) Stop) (o : Option (List ℕ)) → result ≡ given → given ≡ Ok o → IfOk result (λ found. found ≡ o)
 told_by (Ok found) given o e h = cc (e, h)
 told_by (Err stopped) given o e h = tt
-
-pub if_ok : {A E : Type 0} (P : Type 0) (result : Result A E) → P → IfOk result (λ _. P)
-if_ok P (Ok x) h = h
-if_ok P (Err e) h = tt
-
-pub if_err : {A E : Type 0} (P : Type 0) (result : Result A E) → P → IfErr result (λ _. P)
-if_err P (Ok x) h = tt
-if_err P (Err e) h = h
 
 -- the device runs on with the state that it has
 pub runs_on : (now : Option Parts) (kept : Option Stored) (bank : Bank) (pcr : ℕ) (s : Parts) → pcr ≤ 23

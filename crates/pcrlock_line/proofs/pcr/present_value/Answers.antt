@@ -1,9 +1,9 @@
 use Rattle.std.proofs.Common.{ap, ◌∙◌}
-use Rattle.pcrlock_predict.specs.Present.{reading_of}
+use Rattle.pcrlock_line.specs.PcrAnswer.{reading_of}
 use Rattle.pcrlock_line.specs.Running.{Runs}
-use Rattle.pcrlock_predict.proofs.Ended.{without_fault}
-use Rattle.pcrlock_predict.proofs.PcrReads.{if_ok, read_tells, runs_on, stopped, told_by}
-use Rattle.pcrlock_predict.proofs.present.present_value.Goals as goal
+use Rattle.pcrlock_line.proofs.Composed.{if_ok, without_fault}
+use Rattle.pcrlock_line.proofs.PcrReads.{read_tells, runs_on, stopped, told_by}
+use Rattle.pcrlock_line.proofs.pcr.present_value.Goals as goal
 
 pub returns-in-Ok-clause-causes : goal.returns-in-Ok-clause-causes
 returns-in-Ok-clause-causes g c =

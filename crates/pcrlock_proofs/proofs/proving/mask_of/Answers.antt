@@ -1,6 +1,0 @@
-use Rattle.std.proofs.Common.{◌<◌, ◌^◌, arith}
-use Rattle.std.proofs.lemmas.Nat.{pow_below}
-use Rattle.pcrlock_proofs.proofs.proving.mask_of.Goals as goal
-
-pub returns-clause-below : goal.returns-clause-below
-returns-clause-below c = let small : 2 ^ c.args.pcr < 2 ^ 24 = pow_below c.args.pcr 24 (omega (arith, c.requires)) in omega arith
