@@ -1,6 +1,5 @@
 -- What a step of `make-policy` told is what the step before it tells.
 use Rattle.std.proofs.Common.{◌≡◌, ℕ, Bool, true, false, List, [], ◌∷◌, ◌++◌, inl, inr, refl, sym, subst, Contains}
-use Rattle.std.proofs.lemmas.List.Elements.{Contains-append_left}
 use Rattle.std.specs.Prelude.{Option, None, Some, Result, Ok, Err, IfOk, IfErr}
 use Rattle.pl_base.specs.FileMap.{FileMap}
 use Rattle.hash_bank.specs.HashedString.{HashedString, NoClash}
@@ -65,13 +64,6 @@ pub behind_stands : (result : Result Reply Stop) (held : Option FileMap) (stored
     → Stands result held stored o → Stands result held stored (behind_session m strings o)
 behind_stands (Ok reply) held stored m strings o h = tt
 behind_stands (Err stop) held stored m strings o h = inr h
-
--- strings that don't clash among more don't clash
-pub safe_left : (xs ys : List HashedString) → NoClash (Contains (xs ++ ys)) → NoClash (Contains xs)
-safe_left xs ys safe = record {
-  distinct = λ s t h k. safe.distinct s t (Contains-append_left xs ys s h) (Contains-append_left xs ys t k);
-  nonzero = λ s h. safe.nonzero s (Contains-append_left xs ys s h);
-}
 
 -- a machine whose stored state differs at most in sessions stands
 pub kept_at : (held : Option FileMap) (stored now : Option Stored) (words : Option (List (List ℕ))) (m : Live) → Tells held stored words (machine m) → Kept m.state now → StandsAt held now (machine m)

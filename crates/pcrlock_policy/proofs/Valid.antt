@@ -7,6 +7,7 @@ use Rattle.component_tree.specs.PlainTree.{PlainComponent}
 use Rattle.component_tree.specs.Reading.{tree_in}
 use Rattle.policy_digest.specs.declared.table.Row.{Row}
 use Rattle.policy_digest.specs.Table.{valid_table}
+use Rattle.policy_digest.specs.declared.table.Table.{Table}
 use Rattle.predictor.specs.declared.error.ProtectError.{ProtectError}
 use Rattle.predictor.specs.declared.protection.Protection.{Protection}
 use Rattle.predictor.specs.Protected.{protected_of}
@@ -24,7 +25,7 @@ use Rattle.pcrlock_policy.specs.Asked.{Asked}
 use Rattle.pcrlock_policy.specs.Foreseen.{Foreseen, foreseen_by, foreseen_now, foreseen_on, unless_empty}
 use Rattle.pcrlock_policy.proofs.Trees.{tree_has}
 
-input_ok : {A B : Type 0} (r : Result A Answer) (f : A → Result B Answer) (y : B) → (r >>= f) ≡ Ok y → (x : A) × (r ≡ Ok x) × (f x ≡ Ok y)
+pub input_ok : {A B : Type 0} (r : Result A Answer) (f : A → Result B Answer) (y : B) → (r >>= f) ≡ Ok y → (x : A) × (r ≡ Ok x) × (f x ≡ Ok y)
 input_ok (Ok x) f y e = (x, refl, e)
 input_ok (Err answer) f y e = absurd (cc e)
 
@@ -53,13 +54,13 @@ some_rows : (rows : List Row) (given foreseen : Foreseen) → unless_empty rows 
 some_rows [] given foreseen e = absurd (cc e)
 some_rows (row ∷ rows) given foreseen e = (λ none. cc, cc)
 
-foreseen_has : (components : List PlainComponent) (joint : Bool) (read : Result Protection ProtectError) (foreseen : Foreseen)
-    → ((p : Protection) → read ≡ Ok p → p.table.rows ≢ [] → valid_table p.table ≡ true) → foreseen_by components joint read ≡ Ok foreseen → valid_table foreseen.table ≡ true
-foreseen_has components joint (Ok p) foreseen each e =
-    let given : Foreseen = record { table = p.table; text = counts_text p components joint } in
-    let some = some_rows p.table.rows given foreseen e in
-    subst (λ (f : Foreseen). valid_table f.table ≡ true) some.1 (each p refl some.0)
-foreseen_has components joint (Err error) foreseen each e = absurd (cc e)
+-- it is the table of what is protected, which has a row
+pub foreseen_from : (components : List PlainComponent) (joint : Bool) (read : Result Protection ProtectError) (foreseen : Foreseen) → foreseen_by components joint read ≡ Ok foreseen
+    → (p : Protection) × (read ≡ Ok p) × (p.table.rows ≢ []) × (p.table ≡ foreseen.table)
+foreseen_from components joint (Ok p) foreseen e =
+    let some = some_rows p.table.rows (record { table = p.table; text = counts_text p components joint }) foreseen e in
+    (p, refl, some.0, ap (λ (f : Foreseen). f.table) some.1)
+foreseen_from components joint (Err error) foreseen e = absurd (cc e)
 
 pub foreseen_valid : (asked : Asked) (inputs : PlainInputs) (s : Parts) (foreseen : Foreseen) → HasVariants inputs.components → foreseen_on asked inputs s ≡ Ok foreseen
     → valid_table foreseen.table ≡ true
@@ -67,5 +68,6 @@ foreseen_valid asked inputs s foreseen has e =
     let values = input_ok (values_or_absent asked.bank (present_of asked.bank asked.pcrs s)) (foreseen_now asked inputs) foreseen e in
     let logs = rows_of inputs.logs in
     let locality = locality_in inputs.logs.firmware in
-    foreseen_has inputs.components asked.joint (protected_of asked.joint inputs.components asked.window asked.pcrs asked.bank logs locality values.0) foreseen
-    (λ p is some. plain_valid asked.joint inputs.components asked.window asked.pcrs asked.bank logs locality values.0 p has is some) values.2
+    let from = foreseen_from inputs.components asked.joint (protected_of asked.joint inputs.components asked.window asked.pcrs asked.bank logs locality values.0) foreseen values.2 in
+    subst (λ (t : Table). valid_table t ≡ true) from.3
+    (plain_valid asked.joint inputs.components asked.window asked.pcrs asked.bank logs locality values.0 from.0 has from.1 from.2)

@@ -15,6 +15,7 @@ use Rattle.pcrlock_line.specs.Machine.{Machine}
 use Rattle.pcrlock_line.specs.Outcome.{Fine, Refused}
 use Rattle.pcrlock_deeds.specs.Acts.{Act, says, works}
 use Rattle.pcrlock_deeds.specs.Deed.{Deed, ends, hashes, sees, walks}
+use Rattle.pcrlock_deeds.specs.Filed.{Current}
 use Rattle.pcrlock_deeds.specs.PolicyAt.{policy_of}
 use Rattle.pcrlock_predict.specs.Inputs.{PlainInputs, inputs_of}
 use Rattle.pcrlock_open.specs.Bound.{held_by, held_opened, held_strings, plain_tables}
@@ -106,7 +107,8 @@ found_act asked target (Err answer) m = says (Refused answer)
 unfoldable pub make_policy_act : Asked → Target → Machine → World → Act
 make_policy_act asked target m w = found_act asked target (policy_of m.files target.path) m
 
--- the table that was foreseen, from what the machine had before, is the newest of the index in the world afterwards
+-- the table that was foreseen, from what the machine had before, is the newest of the index in the world afterwards, and
+-- what is filed there is current
 pub record HasMade (asked : Asked) (target : Target) (m : Machine) (w : World) : Type 0 where
   pub found : Option Policy
   pub read : policy_of m.files target.path ≡ Ok found
@@ -117,3 +119,4 @@ pub record HasMade (asked : Asked) (target : Target) (m : Machine) (w : World) :
   pub foreseen : Foreseen
   pub is : foreseen_on asked inputs state ≡ Ok foreseen
   pub newest : IsNewest (handle_for target found) foreseen.table w
+  pub current : Current w

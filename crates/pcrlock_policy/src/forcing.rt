@@ -20,7 +20,9 @@ use crate::pin::unseal_pin;
 use nv_index::{NvPublic, index_name};
 use pcrlock_answer::Answer;
 use pcrlock_line::{Reply, Stop};
-use pcrlock_update::{make_new_policy, pin_in, test_standing, update_policy, update_with_pin};
+use pcrlock_update::{
+    Given, make_new_policy, pin_in, test_standing, update_policy, update_with_pin,
+};
 use pl_base::{Entropy, Files, Memory, Small};
 use policy_file::Policy;
 use std::alloc::Global;
@@ -71,16 +73,19 @@ fn make_fresh<F: Files, T: Tpm, E: Entropy>(
         → IfErr result (λ _. StandsAmong (F.held files.new) (T.stored tpm.new) (fresh_line (target_of target.now) (option_copied found.entry) stands (foreseen_of foreseen) m).stops) }
 {
     let Foreseen { table, text } = foreseen;
+    let given = Given {
+        path: target.path,
+        index: handle_for(target, found),
+        table: &table,
+    };
     make_new_policy(
         alloc,
         files,
         tpm,
         entropy,
-        target.path,
+        &given,
         pin_in(found),
         stands,
-        handle_for(target, found),
-        &table,
         target.pin,
         text,
     )
@@ -150,18 +155,12 @@ fn update_given<F: Files, T: Tpm>(
         → IfErr result (λ _. StandsAmong (F.held files.new) (T.stored tpm.new) (pinned_line (foreseen_of foreseen).text target.now.path.now (option_copied found.entry) (handle_of_policy (target_of target.now) (option_copied found.entry)) pin.now content.now (foreseen_of foreseen).table m).stops) }
 {
     let Foreseen { table, text } = foreseen;
-    update_with_pin(
-        alloc,
-        files,
-        tpm,
-        target.path,
-        found,
-        handle_for(target, found),
-        pin,
-        content,
-        &table,
-        text,
-    )
+    let given = Given {
+        path: target.path,
+        index: handle_for(target, found),
+        table: &table,
+    };
+    update_with_pin(alloc, files, tpm, &given, found, pin, content, text)
 }
 
 /// Puts the table in force under a written index that passed the tests.

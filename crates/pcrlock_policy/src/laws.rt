@@ -14,7 +14,8 @@ ghost use Rattle.pcrlock_policy.specs.MakePolicy.{make_policy_line};
 
 /// `make-policy` comes to its act. Where what is kept of policy file, state and world was kept before, and no strings
 /// clash in the end, each step of it keeps it. Where besides no stranger presented a pin of a policy, and the command
-/// does its work, be it that nothing had to be changed, the table that was foreseen is the newest of the index.
+/// does its work, be it that nothing had to be changed, the table that was foreseen is the newest of the index, and what is
+/// filed is current, whether or not it was so before.
 pub fn policy_is_an_act()
     ensures act { (state : List ℕ) (asked : Asked) (target : Target) → IsAct (make_policy_line state asked target) state (make_policy_act asked target) }
     ensures sound { (asked : Asked) (target : Target) (m : Machine) (w : World) → IsIndex target.index → HoldsAt (IsOwnKept target.path) m w

@@ -22,13 +22,13 @@ use Rattle.pcrlock_deeds.specs.Acts.{IsDone, SameStops}
 use Rattle.pcrlock_deeds.specs.Deed.{Deed, ends, hashes}
 use Rattle.pcrlock_deeds.specs.Doings.{after, ending, hashed, outcome, stops}
 use Rattle.pcrlock_deeds.proofs.Standing.{deed_first}
-use Rattle.pcrlock_update.specs.Acts.{defining, evicting, forcing, kept_deed, new_deed, new_with_deed, pinned_deed, replacing, sealing, sending, stating, unless_refused, with_object}
+use Rattle.pcrlock_update.specs.Acts.{defining, evicting, forcing, kept_deed, new_deed, new_with_deed, pinned_deed, replacing, sealing, sending, stating, unless_refused, updating, with_object}
 use Rattle.pcrlock_update.specs.declared.change.Change.TheVariants as change
 use Rattle.pcrlock_update.specs.declared.change.TpmChange.TheVariants as tpm
 use Rattle.pcrlock_update.specs.Changes.{Made, changes_made, made_after, made_next, made_then, refusal_in}
-use Rattle.pcrlock_update.specs.NewPolicy.{content_for, define_changes, evict_changes, force_changes, made_line, made_text, new_line, new_line_from, new_made, new_public, new_with, update_strings}
+use Rattle.pcrlock_update.specs.NewPolicy.{content_for, define_changes, evict_changes, force_changes, made_line, made_text, new_line, new_line_from, new_made, new_public, new_with, stated, update_strings}
 use Rattle.pcrlock_update.specs.Sealed.{object_made, pin_made, pin_sealed, sealed_in}
-use Rattle.pcrlock_update.specs.Update.{kept_line, kept_update, named_by, named_in, pin_in, pinned_line, sealed_update, stated, tables_between, update_changes, updated_text}
+use Rattle.pcrlock_update.specs.Update.{kept_line, kept_update, named_by, named_in, pin_in, pinned_line, sealed_update, tables_between, update_changes, updated_text}
 
 -- some changes come to a deed, whose strings don't matter
 abbrev Comes : List ℕ → Live → Made → Deed → Type 0
@@ -81,7 +81,7 @@ evict_as : (text path : List ℕ) (old : Option ℕ) (m : Live) → Comes text m
 evict_as text path None m = nothing_as text path m
 evict_as text path (Some object) m =
     let r = evict object m.state in
-    next_as text (event_strings (Other (command.Evict object)) m.state) (refusal_in r.0) m m.files r.1 (changes_made path []) (ends (Fine text))
+    next_as text (event_strings (Other (command.Evict object)) m.state) (refusal_in (tpm.Evict object) r.0) m m.files r.1 (changes_made path []) (ends (Fine text))
     (nothing_as text path (record m { state = r.1 }))
 
 force_as : (text path : List ℕ) (old : Option ℕ) (index : ℕ) (pin : List ℕ) (table : Table) (object : ℕ) (m : Live)
@@ -92,9 +92,9 @@ force_as text path old index pin table object m =
     let written = insert m.files path (policy_text (stated index pin object (table ∷ []))) in
     let n : Live = record m { files = written } in
     let r = nv_write index pin (content_for table) m.state in
-    let write = change.Tpm (tpm.Write index pin (content_for table)) in
-    next_as text [] None m written m.state (changes_made path (write ∷ evict_changes old)) (sending event finish)
-    (next_as text (event_strings event m.state) (refusal_in r.0) n written r.1 (changes_made path (evict_changes old)) finish
+    let write = tpm.Write index pin (content_for table) in
+    next_as text [] None m written m.state (changes_made path (change.Tpm write ∷ evict_changes old)) (updating index pin table finish)
+    (next_as text (event_strings event m.state) (refusal_in write r.0) n written r.1 (changes_made path (evict_changes old)) finish
     (evict_as text path old (record n { state = r.1 })))
 
 replace_as : (text path : List ℕ) (old : Option ℕ) (index : ℕ) (pin : List ℕ) (object : ℕ) (named : Option Table) (table : Table) (m : Live)
@@ -108,10 +108,10 @@ replace_as text path old index pin object named table m =
     let text_alone = policy_text (stated index pin object (table ∷ [])) in
     let alone = insert between path text_alone in
     let k : Live = record n { state = r.1 } in
-    let write = change.Tpm (tpm.Write index pin (content_for table)) in
+    let write = tpm.Write index pin (content_for table) in
     let restate = stating path index pin object (table ∷ []) finish in
-    next_as text [] None m between m.state (changes_made path (write ∷ change.File text_alone ∷ evict_changes old)) (sending event restate)
-    (next_as text (event_strings event m.state) (refusal_in r.0) n between r.1 (changes_made path (change.File text_alone ∷ evict_changes old)) restate
+    next_as text [] None m between m.state (changes_made path (change.Tpm write ∷ change.File text_alone ∷ evict_changes old)) (updating index pin table restate)
+    (next_as text (event_strings event m.state) (refusal_in write r.0) n between r.1 (changes_made path (change.File text_alone ∷ evict_changes old)) restate
     (next_as text [] None k alone r.1 (changes_made path (evict_changes old)) finish
     (evict_as text path old (record k { files = alone }))))
 
@@ -145,8 +145,8 @@ define_free text path index pin rest d m h =
     let event = Define (new_public index pin) pin in
     let r = nv_define (new_public index pin) m.state in
     let n : Live = record m { state = r.1 } in
-    subst (λ (made : Made). Comes text m made (defining false index pin d)) (sym (then_next (refusal_in r.0) m n (changes_made path []) rest))
-    (next_as text (event_strings event m.state) (refusal_in r.0) m m.files r.1 (λ k. made_then (changes_made path [] k) rest) d (again_as text path n rest d (h n)))
+    subst (λ (made : Made). Comes text m made (defining false index pin d)) (sym (then_next (refusal_in (tpm.Define (new_public index pin)) r.0) m n (changes_made path []) rest))
+    (next_as text (event_strings event m.state) (refusal_in (tpm.Define (new_public index pin)) r.0) m m.files r.1 (λ k. made_then (changes_made path [] k) rest) d (again_as text path n rest d (h n)))
 
 define_as : (text path : List ℕ) (stands : Bool) (index : ℕ) (pin : List ℕ) (rest : Live → Made) (d : Deed) (m : Live) → ((n : Live) → Comes text n (rest n) d)
     → Comes text m (made_then (changes_made path (define_changes stands index pin) m) rest) (defining stands index pin d)
@@ -156,8 +156,8 @@ define_as text path true index pin rest d m h =
     let r = nv_undefine index m.state in
     let n : Live = record m { state = r.1 } in
     let then = defining false index pin d in
-    subst (λ (made : Made). Comes text m made (defining true index pin d)) (sym (then_next (refusal_in r.0) m n (changes_made path (define_changes false index pin)) rest))
-    (next_as text (event_strings event m.state) (refusal_in r.0) m m.files r.1 (λ k. made_then (changes_made path (define_changes false index pin) k) rest) then
+    subst (λ (made : Made). Comes text m made (defining true index pin d)) (sym (then_next (refusal_in (tpm.Undefine index) r.0) m n (changes_made path (define_changes false index pin)) rest))
+    (next_as text (event_strings event m.state) (refusal_in (tpm.Undefine index) r.0) m m.files r.1 (λ k. made_then (changes_made path (define_changes false index pin) k) rest) then
     (define_free text path index pin rest d n h))
 
 -- the strings of the whole stand before it

@@ -8,3 +8,4 @@ pub mod Comes
 pub mod Sound
 pub mod Makes
 pub mod Unchanged
+pub mod Refusals

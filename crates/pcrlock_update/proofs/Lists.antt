@@ -74,7 +74,7 @@ one_stopped (Some why) held kept path m n (inl at) = inl at
 one_stopped (Some why) held kept path m n (inr at) = inr (inl at)
 
 pub sent_came : (result : Result (Option Answer) Stop) (held : Option FileMap) (now : Option Parts) (kept : Option Stored) (path : List ℕ) (c : TpmChange) (m : Live) → held ≡ Some m.files
-    → Sent result now kept (command_of c) m.state → CameTo result held now kept (changes_made path (change.Tpm c ∷ []) m)
+    → Sent result now kept c m.state → CameTo result held now kept (changes_made path (change.Tpm c ∷ []) m)
 sent_came (Ok why) held now kept path c m files h =
     one_came why (change_made path (change.Tpm c) m).0 held now kept path m (change_made path (change.Tpm c) m).1 h.0 (record { files = files; live = h.1.live; stored = h.1.stored })
 sent_came (Err stop) held now kept path c m files (inl k) =

@@ -34,20 +34,22 @@ use Rattle.pcrlock_deeds.specs.Filed.{Current, CurrentOf}
 use Rattle.pcrlock_deeds.specs.Steps.{answer_to, sent_live, written_live}
 use Rattle.pcrlock_update.specs.Acts.{IsInForce, defining, evicting, filed_of, forcing, kept_deed, new_deed, new_with_deed, pinned_deed, replacing, sealing, sending, stating, taken_pin, unless_refused, with_object}
 use Rattle.pcrlock_update.specs.Changes.{refusal_in}
-use Rattle.pcrlock_update.specs.NewPolicy.{made_text, new_public, update_strings}
+use Rattle.pcrlock_update.specs.NewPolicy.{content_for, made_text, new_public, stated, update_strings}
 use Rattle.pcrlock_update.specs.Sealed.{sealed_in}
-use Rattle.pcrlock_update.specs.Update.{named_by, named_in, pin_in, stated, tables_between, updated_text}
+use Rattle.pcrlock_update.specs.Update.{named_by, named_in, pin_in, tables_between, updated_text}
+use Rattle.pcrlock_update.specs.declared.change.TpmChange.{TpmChange}
+use Rattle.pcrlock_update.specs.declared.change.TpmChange.TheVariants as tpm
 
 -- ---- one step of changes that come to a good end
 
 -- the command wasn't refused, and what else was to be done came to a good end
-sending_makes : (P : World → Type 0) (event : Event) (next : Deed) (m : Live) (w : World) (text : List ℕ) → ending (sending event next) m ≡ Fine text
+sending_makes : (P : World → Type 0) (change : TpmChange) (event : Event) (next : Deed) (m : Live) (w : World) (text : List ℕ) → ending (sending change event next) m ≡ Fine text
     → (let n = sent_live event m in
     let v = world_after event m.state w in
-    (refusal_in (answer_to event m) ≡ None → ending next n ≡ Fine text → P (world next n v)) → P (world (sending event next) m w))
-sending_makes P event next m w text fine h = by (refusal_in (answer_to event m)) refl fine
+    (refusal_in change (answer_to event m) ≡ None → ending next n ≡ Fine text → P (world next n v)) → P (world (sending change event next) m w))
+sending_makes P change event next m w text fine h = by (refusal_in change (answer_to event m)) refl fine
   where
-    by : (why : Option Answer) → refusal_in (answer_to event m) ≡ why → ending (unless_refused why next) (sent_live event m) ≡ Fine text
+    by : (why : Option Answer) → refusal_in change (answer_to event m) ≡ why → ending (unless_refused why next) (sent_live event m) ≡ Fine text
         → P (world (unless_refused why next) (sent_live event m) (world_after event m.state w))
     by None e f = h e f
     by (Some why) e f = absurd (cc f)
@@ -67,14 +69,14 @@ sealing_makes P index pin next m w text fine h = by (sealed_in (answer_to (SealP
 -- ---- the index
 
 -- a write that wasn't refused was done
-write_done : (handle : ℕ) (pin value : List ℕ) (s : Parts) → refusal_in (nv_write handle pin value s).0 ≡ None → (nv_write handle pin value s).0 ≡ answer.Done
+write_done : (handle : ℕ) (pin value : List ℕ) (s : Parts) → refusal_in (tpm.Write handle pin value) (nv_write handle pin value s).0 ≡ None → (nv_write handle pin value s).0 ≡ answer.Done
 write_done handle pin value s = by (index_at handle s.indices)
   where
     IsDone : Option NvRefusal → Type 0
-    IsDone why = refusal_in (nv_write_unless why handle value s).0 ≡ None → (nv_write_unless why handle value s).0 ≡ answer.Done
+    IsDone why = refusal_in (tpm.Write handle pin value) (nv_write_unless why handle value s).0 ≡ None → (nv_write_unless why handle value s).0 ≡ answer.Done
 
     counted : IsDone None
-    counted = cond_both (s.write_counter == 4294967295) _ _ (λ (r : Response × Parts). refusal_in r.0 ≡ None → r.0 ≡ answer.Done) (λ _ e. absurd (cc e)) (λ _ e. refl)
+    counted = cond_both (s.write_counter == 4294967295) _ _ (λ (r : Response × Parts). refusal_in (tpm.Write handle pin value) r.0 ≡ None → r.0 ≡ answer.Done) (λ _ e. absurd (cc e)) (λ _ e. refl)
 
     by : (o : Option Index) → IsDone (write_refusal_of o (pin_policy_of pin) value)
     by None = λ e. absurd (cc e)
@@ -83,9 +85,9 @@ write_done handle pin value s = by (index_at handle s.indices)
         (λ _. cond_both (not (length value == 34)) _ _ IsDone (λ _ e. absurd (cc e)) (λ _. counted))
 
 -- then its table is the newest
-newest : (index : ℕ) (pin : List ℕ) (table : PlainTable) (s : Parts) (w : World)
+pub newest : (index : ℕ) (pin : List ℕ) (table : PlainTable) (s : Parts) (w : World)
     → (let event = Update index pin table in
-    refusal_in (respond (command_of event) s).0 ≡ None → get (world_after event s w).live index ≡ Some (record { pin = pin; table = table }))
+    refusal_in (tpm.Write index pin (content_of_table table)) (respond (command_of event) s).0 ≡ None → get (world_after event s w).live index ≡ Some (record { pin = pin; table = table }))
 newest index pin table s w e =
     let event = Update index pin table in
     let r = respond (command_of event) s in
@@ -101,9 +103,9 @@ live_stays object r s v = refl
 
 module _ (index : ℕ) (pin : List ℕ) (table : Table) where
   -- what is in force stays so while an old pin goes
-  evicting_makes : (old : Option ℕ) (last : Ending) (m : Live) (w : World) → IsInForce index pin table w → IsInForce index pin table (world (evicting old (ends last)) m w)
+  pub evicting_makes : (old : Option ℕ) (last : Ending) (m : Live) (w : World) → IsInForce index pin table w → IsInForce index pin table (world (evicting old (ends last)) m w)
   evicting_makes None last m w h = h
-  evicting_makes (Some object) last m w h = by (refusal_in (answer_to event m))
+  evicting_makes (Some object) last m w h = by (refusal_in (tpm.Evict object) (answer_to event m))
     where
       event : Event
       event = Other (command.Evict object)
@@ -129,7 +131,7 @@ module _ (index : ℕ) (pin : List ℕ) (table : Table) where
       let n = written_live path (policy_text (stated index pin object (table ∷ []))) m in
       let v = filed_world (Some (filed_of index pin object (table ∷ []))) w in
       let r = respond (command_of event) n.state in
-      sending_makes (IsInForce index pin table) event (evicting old (ends last)) n v text fine
+      sending_makes (IsInForce index pin table) (tpm.Write index pin (content_for table)) event (evicting old (ends last)) n v text fine
       (λ e f. evicting_makes old last (sent_live event n) (world_after event n.state v) (record {
         object = object;
         live = newest index pin (plain_table table) n.state v e;
@@ -145,7 +147,7 @@ module _ (index : ℕ) (pin : List ℕ) (table : Table) where
       let n = written_live path (policy_text (stated index pin object both)) m in
       let v = filed_world (Some (filed_of index pin object both)) w in
       let filed = filed_of index pin object (table ∷ []) in
-      sending_makes (IsInForce index pin table) event (stating path index pin object (table ∷ []) (evicting old (ends last))) n v text fine
+      sending_makes (IsInForce index pin table) (tpm.Write index pin (content_for table)) event (stating path index pin object (table ∷ []) (evicting old (ends last))) n v text fine
       (λ e f. evicting_makes old last (written_live path (policy_text (stated index pin object (table ∷ []))) (sent_live event n)) (filed_world (Some filed) (world_after event n.state v))
       (record { object = object; live = newest index pin (plain_table table) n.state v e; filed = refl }))
 
@@ -174,13 +176,13 @@ new_with_makes text path old stands index table pin m w out fine = by stands fin
     defined : (n : Live) (u : World) → ending (defining false index pin (sealing index pin next)) n ≡ Fine out → P (world (defining false index pin (sealing index pin next)) n u)
     defined n u f =
         let event = Define (new_public index pin) pin in
-        sending_makes P event (sealing index pin next) n u out f (λ e g. sealed (sent_live event n) (world_after event n.state u) g)
+        sending_makes P (tpm.Define (new_public index pin)) event (sealing index pin next) n u out f (λ e g. sealed (sent_live event n) (world_after event n.state u) g)
 
     by : (free : Bool) → ending (defining free index pin (sealing index pin next)) m ≡ Fine out → P (world (defining free index pin (sealing index pin next)) m v)
     by false f = defined m v f
     by true f =
         let event = Other (command.NvUndefine index) in
-        sending_makes P event (defining false index pin (sealing index pin next)) m v out f (λ e g. defined (sent_live event m) (world_after event m.state v) g)
+        sending_makes P (tpm.Undefine index) event (defining false index pin (sealing index pin next)) m v out f (λ e g. defined (sent_live event m) (world_after event m.state v) g)
 
 new_from_makes : (text path : List ℕ) (old : Option ℕ) (stands : Bool) (index : ℕ) (table : Table) (pin : Option (List ℕ)) (held : FileMap) (s : Parts) (words : List (List ℕ)) (w : World) (out : List ℕ)
     → (let m : Live = record { files = held; state = s; draws = words } in

@@ -1,18 +1,13 @@
 -- What the TPM and the files answer while a policy is taken away.
 use Rattle.std.proofs.Common.{◌≡◌, ◌⊎◌, ℕ, List, inl, inr, refl, sym, ap, subst, ◌∙◌}
 use Rattle.std.specs.Prelude.{Option, None, Some, Result, Ok, Err, IfOk, IfErr}
-use Rattle.std.specs.FinMap.{get, remove}
 use Rattle.pl_base.specs.FileMap.{FileMap}
-use Rattle.pl_base.specs.FileAnswers.{RemoveLeaves}
-use Rattle.pl_base.specs.declared.files.RemoveError.{RemoveError}
-use Rattle.pl_base.specs.declared.files.RemoveError.TheVariants as gone
 use Rattle.nv_index.specs.declared.index.Index.{Index}
 use Rattle.nv_index.specs.Table.{index_at, public_of}
 use Rattle.policy_file.specs.declared.policy.Policy.{Policy}
 use Rattle.tpm_model.specs.declared.parts.Parts.{Parts}
 use Rattle.tpm_model.specs.IndexCommands.{nv_read_public, public_answer}
 use Rattle.tpm_device.specs.Stored.{Stored, Holds}
-use Rattle.pcrlock_line.specs.Content.{content_at}
 use Rattle.pcrlock_answer.specs.declared.answer.Answer.{Answer}
 use Rattle.pcrlock_line.specs.declared.reply.Reply.{Reply}
 use Rattle.pcrlock_line.specs.Machine.{Machine, Live, machine}
@@ -21,7 +16,7 @@ use Rattle.pcrlock_line.specs.Running.{Keeps, Runs}
 use Rattle.pcrlock_line.specs.declared.stop.Stop.{Stop}
 use Rattle.pcrlock_line.specs.Stopped.{StandsAt, StandsAmong}
 use Rattle.pcrlock_line.proofs.Standing.{holds_same}
-use Rattle.pcrlock_deeds.specs.PolicyAt.{policy_by, policy_of, policy_limit}
+use Rattle.pcrlock_deeds.specs.PolicyAt.{policy_of}
 use Rattle.pcrlock_update.specs.RemovePolicy.{has_policy, shows_policy, without_index, without_pin, removed_line, removal_line, removal_of, remove_policy_line}
 
 -- the answer shows the policy's digest exactly where the index has it
@@ -39,14 +34,6 @@ kept_of (Some index) handle s = refl
 
 pub read_keeps : (handle : ℕ) (s : Parts) → (nv_read_public handle s).1 ≡ s
 read_keeps handle s = kept_of (index_at handle s.indices) handle s
-
--- where a policy was read, a file stands
-there : (path : List ℕ) (o : Option (List ℕ)) (policy : Policy) → policy_by path (content_at o policy_limit) ≡ Ok (Some policy) → (bytes : List ℕ) × (o ≡ Some bytes)
-there path None policy e = absurd (cc e)
-there path (Some bytes) policy e = (bytes, refl)
-
-pub file_there : (files : FileMap) (path : List ℕ) (policy : Policy) → policy_of files path ≡ Ok (Some policy) → (bytes : List ℕ) × (get files path ≡ Some bytes)
-file_there files path policy e = there path (get files path) policy e
 
 -- after a stop of a command on the TPM the state before is stored, or the next one
 pub either : (now : Option Stored) (s t : Parts) → (now ≡ Some (Holds s)) ⊎ (now ≡ Some (Holds t)) → Keeps now s ⊎ Keeps now t
@@ -67,18 +54,6 @@ stops_later P Q (Err stop) h = inr h
 pub read_stopped : (now : Option Stored) (handle : ℕ) (s : Parts) → (now ≡ Some (Holds s)) ⊎ (now ≡ Some (Holds (nv_read_public handle s).1)) → Keeps now s
 read_stopped now handle s (inl same) = record { stored = same }
 read_stopped now handle s (inr next) = record { stored = next ∙ ap (λ x. Some (Holds x)) (read_keeps handle s) }
-
--- what the removal of a file answers
-pub missing_there : {X : Type 0} (files : FileMap) (path bytes : List ℕ) (error : RemoveError) (now : Option FileMap) → error ≡ gone.Missing → get files path ≡ Some bytes
-    → RemoveLeaves files path (Err error) now → X
-missing_there files path bytes error now e stands h =
-    let none = subst (λ (x : RemoveError). RemoveLeaves files path (Err x) now) e h in absurd (cc (none.0, stands))
-
-pub after_failure : (files : FileMap) (path : List ℕ) (error : RemoveError) (now : Option FileMap) → error ≡ gone.Failed → RemoveLeaves files path (Err error) now → (now ≡ Some files) ⊎ (now ≡ Some (remove files path))
-after_failure files path error now e h = subst (λ (x : RemoveError). RemoveLeaves files path (Err x) now) e h
-
-pub after_memory : (files : FileMap) (path : List ℕ) (error : RemoveError) (now : Option FileMap) → error ≡ gone.Memory → RemoveLeaves files path (Err error) now → (now ≡ Some files) ⊎ (now ≡ Some (remove files path))
-after_memory files path error now e h = let same = subst (λ (x : RemoveError). RemoveLeaves files path (Err x) now) e h in inl same
 
 -- files and a state that are told
 pub standing : (held : Option FileMap) (stored : Option Stored) (files : FileMap) (s : Parts) (draws : List (List ℕ)) → held ≡ Some files → Keeps stored s

@@ -57,11 +57,13 @@ use Rattle.pcrlock_deeds.specs.Steps.{answer_to, sent_live, written_live}
 use Rattle.pcrlock_deeds.specs.Doings.{world}
 use Rattle.pcrlock_deeds.proofs.Growing.{deed_grows, grows_hashed}
 use Rattle.pcrlock_deeds.proofs.Objects.{objects_before, objects_rise}
-use Rattle.pcrlock_update.specs.Acts.{defining, evicting, filed_of, forcing, kept_deed, new_deed, new_with_deed, pinned_deed, replacing, sealing, sending, stating, unless_refused, with_object}
+use Rattle.pcrlock_update.specs.Acts.{defining, evicting, filed_of, forcing, kept_deed, new_deed, new_with_deed, pinned_deed, replacing, sealing, sending, stating, unless_refused, updating, with_object}
 use Rattle.pcrlock_update.specs.Changes.{refusal_in}
-use Rattle.pcrlock_update.specs.NewPolicy.{content_for, made_text, new_public, update_strings}
+use Rattle.pcrlock_update.specs.NewPolicy.{content_for, made_text, new_public, stated, update_strings}
 use Rattle.pcrlock_update.specs.Sealed.{sealed_in}
-use Rattle.pcrlock_update.specs.Update.{IsNamed, if_named, named_by, named_in, pin_in, stated, tables_between, updated_text}
+use Rattle.pcrlock_update.specs.Update.{IsNamed, if_named, named_by, named_in, pin_in, tables_between, updated_text}
+use Rattle.pcrlock_update.specs.declared.change.TpmChange.{TpmChange}
+use Rattle.pcrlock_update.specs.declared.change.TpmChange.TheVariants as tpm
 use Rattle.pcrlock_update.proofs.Seals.{is_stated}
 
 -- ---- a policy that is written is read
@@ -190,21 +192,21 @@ module _ (Files : FileRule) where
   unless_sound None next m w h = h
   unless_sound (Some answer) next m w h = tt
 
-  sending_sound : (event : Event) (next : Deed) (m : Live) (w : World) → IsSoundEvent event w → IsSound Files next (sent_live event m) (world_after event m.state w)
-      → IsSound Files (sending event next) m w
-  sending_sound event next m w fair h = (fair, unless_sound (refusal_in (answer_to event m)) next (sent_live event m) (world_after event m.state w) h)
+  sending_sound : (change : TpmChange) (event : Event) (next : Deed) (m : Live) (w : World) → IsSoundEvent event w → IsSound Files next (sent_live event m) (world_after event m.state w)
+      → IsSound Files (sending change event next) m w
+  sending_sound change event next m w fair h = (fair, unless_sound (refusal_in change (answer_to event m)) next (sent_live event m) (world_after event m.state w) h)
 
   -- an old policy's pin is anyone's to take away
   evicting_sound : (old : Option ℕ) (last : Ending) (m : Live) (w : World) → IsSound Files (evicting old (ends last)) m w
   evicting_sound None last m w = tt
-  evicting_sound (Some object) last m w = sending_sound (Other (command.Evict object)) (ends last) m w tt tt
+  evicting_sound (Some object) last m w = sending_sound (tpm.Evict object) (Other (command.Evict object)) (ends last) m w tt tt
 
   -- a new index has the pin's policy
   defining_free : (index : ℕ) (pin : List ℕ) (next : Deed) (m : Live) (w : World) → ((n : Live) (v : World) → GrowsAll w v → IsSound Files next n v)
       → IsSound Files (defining false index pin next) m w
   defining_free index pin next m w h =
       let event = Define (new_public index pin) pin in
-      sending_sound event next m w refl (h (sent_live event m) (world_after event m.state w) (grows_event event m.state w))
+      sending_sound (tpm.Define (new_public index pin)) event next m w refl (h (sent_live event m) (world_after event m.state w) (grows_event event m.state w))
 
   defining_sound : (stands : Bool) (index : ℕ) (pin : List ℕ) (next : Deed) (m : Live) (w : World) → ((n : Live) (v : World) → GrowsAll w v → IsSound Files next n v)
       → IsSound Files (defining stands index pin next) m w
@@ -212,7 +214,7 @@ module _ (Files : FileRule) where
   defining_sound true index pin next m w h =
       let event = Other (command.NvUndefine index) in
       let v = world_after event m.state w in
-      sending_sound event (defining false index pin next) m w tt
+      sending_sound (tpm.Undefine index) event (defining false index pin next) m w tt
       (defining_free index pin next (sent_live event m) v (λ n u grows. h n u (joined w v u (grows_event event m.state w) grows)))
 
   -- a sealed pin is held by its object
@@ -246,8 +248,8 @@ module _ (path : List ℕ) (index : ℕ) (pin : List ℕ) (object : ℕ) where
       let event = Update index pin (plain_table table) in
       let n = written_live path (policy_text (stated index pin object (table ∷ []))) m in
       let v = filed_world (Some (filed_of index pin object (table ∷ []))) w in
-      stating_sound (table ∷ []) (sending event next) m w (is_stated index pin object None table range is_object tt valid) h (held, tt)
-      (sending_sound (LeavesFiled path) event next n v (record { table = table; valid = valid; same = refl }) (rest (sent_live event n) (world_after event n.state v)))
+      stating_sound (table ∷ []) (updating index pin table next) m w (is_stated index pin object None table range is_object tt valid) h (held, tt)
+      (sending_sound (LeavesFiled path) (tpm.Write index pin (content_for table)) event next n v (record { table = table; valid = valid; same = refl }) (rest (sent_live event n) (world_after event n.state v)))
 
   -- a table is put in the place of the one that the index names
   replacing_sound : (named : Option Table) (table : Table) (next : Deed) (m : Live) (w : World) → IsIndex index → IsObject object → IsNamed named
@@ -263,8 +265,8 @@ module _ (path : List ℕ) (index : ℕ) (pin : List ℕ) (object : ℕ) where
       let u = world_after event n.state v in
       let last = written_live path (policy_text (stated index pin object (table ∷ []))) k in
       let finish = filed_world (Some (filed_of index pin object (table ∷ []))) u in
-      stating_sound both (sending event (stating path index pin object (table ∷ []) next)) m w (is_stated index pin object named table range is_object is_named valid) h (between named before)
-      (sending_sound (LeavesFiled path) event (stating path index pin object (table ∷ []) next) n v (record { table = table; valid = valid; same = refl })
+      stating_sound both (updating index pin table (stating path index pin object (table ∷ []) next)) m w (is_stated index pin object named table range is_object is_named valid) h (between named before)
+      (sending_sound (LeavesFiled path) (tpm.Write index pin (content_for table)) event (stating path index pin object (table ∷ []) next) n v (record { table = table; valid = valid; same = refl })
       (stating_sound (table ∷ []) next k u (is_stated index pin object None table range is_object tt valid)
       (holds_after index pin object event n.state v (holds_filed index pin object (Some (filed_of index pin object both)) n.state w h))
       ((λ x s. (grows_event event n.state v).strings x (held x s)), tt)

@@ -13,8 +13,9 @@ use Rattle.std.proofs.lemmas.Option.{get_or_from_slice_get, slice_get_within}
 use Rattle.std.proofs.lemmas.Slice.Eq.{bytes_eq-Decides}
 use Rattle.hash_bank.specs.declared.bank.Bank.{Bank}
 use Rattle.hash_bank.specs.declared.bank.Bank.TheVariants.{Sha1, Sha256, Sha384, Sha512}
-use Rattle.hash_bank.specs.Hash.{algorithm_in}
+use Rattle.hash_bank.specs.Hash.{algorithm_in, bank_of_algorithm}
 use Rattle.nv_index.specs.declared.index.Index.{Index}
+use Rattle.nv_index.specs.declared.index.NvPublic.{NvPublic}
 use Rattle.nv_index.specs.declared.index.Written.{Written}
 use Rattle.nv_index.specs.IndexName.{written_public}
 use Rattle.nv_index.specs.Table.{index_at, index_place}
@@ -47,23 +48,17 @@ use Rattle.pcrlock_update.proofs.Sound.{IsKnown, each_hashed, policy_known}
 
 -- ---- tables that are the same
 
+-- a bank is told by its algorithm
+own_bank : (bank : Bank) → bank_of_algorithm (algorithm_in bank) ≡ Some bank
+own_bank Sha1 = refl
+own_bank Sha256 = refl
+own_bank Sha384 = refl
+own_bank Sha512 = refl
+
 same_bank : (a b : Bank) → (algorithm_in a == algorithm_in b) ≡ true → a ≡ b
-same_bank Sha1 Sha1 e = refl
-same_bank Sha1 Sha256 e = absurd (cc e)
-same_bank Sha1 Sha384 e = absurd (cc e)
-same_bank Sha1 Sha512 e = absurd (cc e)
-same_bank Sha256 Sha1 e = absurd (cc e)
-same_bank Sha256 Sha256 e = refl
-same_bank Sha256 Sha384 e = absurd (cc e)
-same_bank Sha256 Sha512 e = absurd (cc e)
-same_bank Sha384 Sha1 e = absurd (cc e)
-same_bank Sha384 Sha256 e = absurd (cc e)
-same_bank Sha384 Sha384 e = refl
-same_bank Sha384 Sha512 e = absurd (cc e)
-same_bank Sha512 Sha1 e = absurd (cc e)
-same_bank Sha512 Sha256 e = absurd (cc e)
-same_bank Sha512 Sha384 e = absurd (cc e)
-same_bank Sha512 Sha512 e = refl
+same_bank a b e =
+    let both : Some a ≡ Some b = sym (own_bank a) ∙ ap bank_of_algorithm (eqb-true (algorithm_in a) (algorithm_in b) e) ∙ own_bank b in
+    cc
 
 -- equal members give equal lists
 same_members : {A : Type 0} (test : A → A → Bool) → ((a b : A) → test a b ≡ true → a ≡ b) → (xs ys : List A) → pointwise test xs ys ≡ true → xs ≡ ys
@@ -92,6 +87,14 @@ tables_tell a b e =
     let bank = same_bank a.bank b.bank both.0 in
     let rows = same_members same_row rows_tell a.rows b.rows both.1 in
     λ i. record { bank = bank i; rows = rows i }
+
+-- where nothing has to be changed, the policy file has the table
+pub unchanged_listed : (policy : Policy) (force : Bool) (public : NvPublic) (held : List ℕ) (table : Table) → is_unchanged (Some policy) force public held table ≡ true
+    → Contains policy.tables table
+unchanged_listed policy force public held table unchanged =
+    let a = and_parts _ (bytes_eq held (content_for table)) unchanged in
+    let b = and_parts _ (file_holds table (Some policy)) a.0 in
+    Contains-from_any tables_tell table policy.tables b.1
 
 -- what holds of all holds of a member
 of_member : {A : Type 0} (P : A → Type 0) (xs : List A) (x : A) → AllByRecursion P xs → Contains xs x → P x
@@ -146,7 +149,7 @@ module _ (path : List ℕ) (policy : Policy) (table : Table) (index : Index) (wr
       let b = and_parts _ (file_holds table (Some policy)) a.0 in
       let c = and_parts (not force) (file_has index.public.policy (Some policy)) b.0 in
       let known = policy_known path policy m w k read in
-      let member : Contains policy.tables table = Contains-from_any tables_tell table policy.tables b.1 in
+      let member = unchanged_listed policy force index.public written.value table unchanged in
       let held = of_member (λ (t : Table). AreHashed w (table_strings (plain_table t))) policy.tables table (each_hashed w policy.tables known.tables) member in
       let digest : policy.index_policy ≡ index.public.policy = bytes_tell policy.index_policy index.public.policy c.1 in
       let content : written.value ≡ content_for table = bytes_tell written.value (content_for table) a.1 in

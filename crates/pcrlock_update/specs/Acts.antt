@@ -20,10 +20,12 @@ use Rattle.pcrlock_deeds.specs.Acts.{Act, says, works}
 use Rattle.pcrlock_deeds.specs.Deed.{Deed, files, ends, hashes, sends, sees, draws, writes, removes}
 use Rattle.pcrlock_deeds.specs.PolicyAt.{policy_of}
 use Rattle.pcrlock_update.specs.Changes.{refusal_in}
-use Rattle.pcrlock_update.specs.NewPolicy.{made_text, new_public, update_strings}
+use Rattle.pcrlock_update.specs.NewPolicy.{content_for, made_text, new_public, stated, update_strings}
 use Rattle.pcrlock_update.specs.RemovePolicy.{has_policy, removed_text}
 use Rattle.pcrlock_update.specs.Sealed.{sealed_in}
-use Rattle.pcrlock_update.specs.Update.{named_by, named_in, pin_in, stated, tables_between, updated_text}
+use Rattle.pcrlock_update.specs.Update.{named_by, named_in, pin_in, tables_between, updated_text}
+use Rattle.pcrlock_update.specs.declared.change.TpmChange.{TpmChange}
+use Rattle.pcrlock_update.specs.declared.change.TpmChange.TheVariants as tpm
 
 -- ---- a policy is taken away
 
@@ -57,9 +59,9 @@ abbrev pub unless_refused : Option Answer → Deed → Deed
 unless_refused None next = next
 unless_refused (Some why) next = ends (Refused why)
 
--- one command of the TPM, and then what else is to be done
-abbrev pub sending : Event → Deed → Deed
-sending event next = sends event (λ response. unless_refused (refusal_in response) next)
+-- one change of the TPM, as the event of its command, and then what else is to be done
+abbrev pub sending : TpmChange → Event → Deed → Deed
+sending change event next = sends event (λ response. unless_refused (refusal_in change response) next)
 
 -- what else is to be done goes by the object that was sealed
 abbrev pub with_object : Result ℕ Answer → (ℕ → Deed) → Deed
@@ -82,18 +84,23 @@ stating path index pin object tables next =
 -- an old policy's pin goes
 abbrev pub evicting : Option ℕ → Deed → Deed
 evicting None next = next
-evicting (Some object) next = sending (Other (command.Evict object)) next
+evicting (Some object) next = sending (tpm.Evict object) (Other (command.Evict object)) next
 
 -- ---- under a new index
 
 -- the index is defined, in place of an unwritten one where such a one stands
 abbrev pub defining : Bool → ℕ → List ℕ → Deed → Deed
-defining true index pin next = sending (Other (command.NvUndefine index)) (sending (Define (new_public index pin) pin) next)
-defining false index pin next = sending (Define (new_public index pin) pin) next
+defining true index pin next =
+    sending (tpm.Undefine index) (Other (command.NvUndefine index)) (sending (tpm.Define (new_public index pin)) (Define (new_public index pin) pin) next)
+defining false index pin next = sending (tpm.Define (new_public index pin)) (Define (new_public index pin) pin) next
+
+-- the index is written, with the table's policy
+abbrev pub updating : ℕ → List ℕ → Table → Deed → Deed
+updating index pin table next = sending (tpm.Write index pin (content_for table)) (Update index pin (plain_table table)) next
 
 -- the policy file is written, and then the index
 abbrev pub forcing : List ℕ → ℕ → List ℕ → ℕ → Table → Deed → Deed
-forcing path index pin object table next = stating path index pin object (table ∷ []) (sending (Update index pin (plain_table table)) next)
+forcing path index pin object table next = stating path index pin object (table ∷ []) (updating index pin table next)
 
 -- the index is defined, the pin sealed, and the table put in force; an old policy's pin goes
 abbrev pub new_with_deed : List ℕ → List ℕ → Option ℕ → Bool → ℕ → Table → List ℕ → Deed
@@ -121,7 +128,7 @@ new_deed text path old stands index table None =
 abbrev pub replacing : List ℕ → ℕ → List ℕ → ℕ → Option Table → Table → Deed → Deed
 replacing path index pin object named table next =
     stating path index pin object (tables_between named table)
-    (sending (Update index pin (plain_table table)) (stating path index pin object (table ∷ []) next))
+    (updating index pin table (stating path index pin object (table ∷ []) next))
 
 -- with a pin that was given: it is sealed anew, and the old one goes
 abbrev pub pinned_deed : List ℕ → List ℕ → Option Policy → ℕ → List ℕ → List ℕ → Table → Deed

@@ -28,19 +28,18 @@ command_of (tpm.Define public) = command.NvDefine public
 command_of (tpm.Write index pin value) = command.NvWrite index pin value
 command_of (tpm.Evict object) = command.Evict object
 
--- the answer for a refusal, which ends the changes. That an object isn't there is passed over. For
--- another reason than these no change is refused
-abbrev pub answer_for : Refusal → Option Answer
-answer_for (refusal.Handle handle) = None
-answer_for refusal.TableFull = Some (said.Limit (codes "indices") 17)
-answer_for refusal.ObjectsFull = Some (said.Limit (codes "objects") 65)
-answer_for refusal.HandlesEnd = Some (said.Limit (codes "handles") 0x00800000)
-answer_for (refusal.CounterEnd counter) = Some (said.CounterEnd true)
-answer_for other = Some said.Memory
+-- the answer for which a change's refusal ends the changes; None where they go on, which is only where an object that is
+-- taken away isn't there. Where a change is made as the commands make it, no other refusal comes than the ones named here
+-- (`RefusedOnly`); another one is taken for want of memory
+abbrev pub answer_for : TpmChange → Refusal → Option Answer
+answer_for (tpm.Define public) refusal.TableFull = Some (said.Limit (codes "indices") 17)
+answer_for (tpm.Write index pin value) (refusal.CounterEnd counter) = Some (said.CounterEnd true)
+answer_for (tpm.Evict object) (refusal.Handle handle) = None
+answer_for change other = Some said.Memory
 
-abbrev pub refusal_in : Response → Option Answer
-refusal_in (answer.Refused why) = answer_for why
-refusal_in other = None
+abbrev pub refusal_in : TpmChange → Response → Option Answer
+refusal_in change (answer.Refused why) = answer_for change why
+refusal_in change other = None
 
 -- what some changes came to: the answer for which they ended, if any; the machine afterwards; and the
 -- machine after each number of them, from none on
@@ -56,7 +55,7 @@ made_next (Some why) m n rest = record { refusal = Some why; after = n; stops = 
 
 -- what a change of the TPM, or of the file at the path, answers and leaves
 abbrev pub change_made : List ℕ → Change → Live → Option Answer × Live
-change_made path (change.Tpm c) m = let r = respond (command_of c) m.state in (refusal_in r.0, record m { state = r.1 })
+change_made path (change.Tpm c) m = let r = respond (command_of c) m.state in (refusal_in c r.0, record m { state = r.1 })
 change_made path (change.File bytes) m = (None, record m { files = insert m.files path bytes })
 
 -- the changes in order, up to the first that is refused

@@ -4,5 +4,6 @@ pub mod Sending
 pub mod Sealed
 pub mod NewPolicy
 pub mod Update
+pub mod Refusals
 pub mod Standing
 pub mod Acts

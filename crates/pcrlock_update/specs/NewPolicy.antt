@@ -33,10 +33,9 @@ abbrev pub define_changes : Bool → ℕ → List ℕ → List Change
 define_changes true index pin = change.Tpm (tpm.Undefine index) ∷ change.Tpm (tpm.Define (new_public index pin)) ∷ []
 define_changes false index pin = change.Tpm (tpm.Define (new_public index pin)) ∷ []
 
--- what the policy file says
-abbrev pub new_policy : ℕ → List ℕ → ℕ → Table → Policy
-new_policy index pin object table =
-    record { handle = index; index_policy = pin_policy_of pin; pin_object = object; tables = table ∷ [] }
+-- what the policy file says, by some tables
+abbrev pub stated : ℕ → List ℕ → ℕ → List Table → Policy
+stated index pin object tables = record { handle = index; index_policy = pin_policy_of pin; pin_object = object; tables = tables }
 
 -- what the index holds for a table: the hash's algorithm, SHA-256, and the table's policy
 abbrev pub content_for : Table → List ℕ
@@ -50,7 +49,7 @@ evict_changes (Some object) = change.Tpm (tpm.Evict object) ∷ []
 -- the policy file is written, then the index, and then an old pin goes
 abbrev pub force_changes : Option ℕ → ℕ → List ℕ → Table → ℕ → List Change
 force_changes old index pin table object =
-    change.File (policy_text (new_policy index pin object table))
+    change.File (policy_text (stated index pin object (table ∷ [])))
     ∷ change.Tpm (tpm.Write index pin (content_for table))
     ∷ evict_changes old
 

@@ -14,13 +14,14 @@ use Rattle.pcrlock_line.specs.Machine.{Live, machine}
 use Rattle.pcrlock_line.specs.Running.{Runs, Keeps}
 use Rattle.pcrlock_update.specs.Changes.{Made, made_next}
 
--- the handle of the object, or why there is none: all numbers of objects were used, or there are 64. No
--- state answers otherwise
+-- the handle of the object, or why there is none: there are 64, or all numbers of objects were used. For a pin no state
+-- with rules answers otherwise; another answer is taken for want of memory
 abbrev pub sealed_in : Response → Result ℕ Answer
 sealed_in (answer.Object handle) =
-    if nat_le 0x81000000 handle && nat_le handle 0x817FFFFF then Ok handle else Err (said.Limit (codes "objects") 65)
+    if nat_le 0x81000000 handle && nat_le handle 0x817FFFFF then Ok handle else Err said.Memory
+sealed_in (answer.Refused refusal.ObjectsFull) = Err (said.Limit (codes "objects") 65)
 sealed_in (answer.Refused refusal.HandlesEnd) = Err (said.Limit (codes "handles") 0x00800000)
-sealed_in other = Err (said.Limit (codes "objects") 65)
+sealed_in other = Err said.Memory
 
 -- the pin is sealed to the policy of the index (TPM 2.0 Library Part 3, TPM2_Create)
 abbrev pub pin_sealed : ℕ → List ℕ → Parts → Response × Parts

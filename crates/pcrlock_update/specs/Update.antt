@@ -3,7 +3,6 @@ use Rattle.std.specs.Prelude.{◌≡◌, ℕ, true, if◌then◌else◌, List, [
 use Rattle.std.specs.Option.{option_or}
 use Rattle.std.specs.Str.{bytes_eq}
 use Rattle.policy_digest.specs.declared.table.Table.{Table}
-use Rattle.policy_digest.specs.Pin.{pin_policy_of}
 use Rattle.policy_digest.specs.Table.{valid_table}
 use Rattle.policy_file.specs.declared.policy.Policy.{Policy}
 use Rattle.policy_file.specs.PolicyText.{policy_text}
@@ -11,11 +10,13 @@ use Rattle.pcrlock_answer.specs.Texts.{line_end}
 use Rattle.pcrlock_line.specs.Machine.{Live}
 use Rattle.pcrlock_line.specs.Outcome.{Outcome}
 use Rattle.pcrlock_update.specs.Changes.{Made, changes_made}
-use Rattle.pcrlock_update.specs.NewPolicy.{content_for, evict_changes, made_line, update_strings}
+use Rattle.pcrlock_update.specs.NewPolicy.{content_for, evict_changes, force_changes, made_line, stated, update_strings}
 use Rattle.pcrlock_update.specs.Sealed.{pin_made}
 use Rattle.pcrlock_update.specs.declared.change.Change.{Change}
 use Rattle.pcrlock_update.specs.declared.change.Change.TheVariants as change
 use Rattle.pcrlock_update.specs.declared.change.TpmChange.TheVariants as tpm
+use Rattle.pcrlock_update.specs.declared.putting.Before.{Before}
+use Rattle.pcrlock_update.specs.declared.putting.Before.TheVariants as before
 
 -- the last table for which the index holds this content
 abbrev pub if_named : List ℕ → Table → Option Table
@@ -35,10 +36,6 @@ abbrev pub pin_in : Option Policy → Option ℕ
 pin_in None = None
 pin_in (Some policy) = Some policy.pin_object
 
--- what the policy file says, by some tables
-abbrev pub stated : ℕ → List ℕ → ℕ → List Table → Policy
-stated index pin object tables = record { handle = index; index_policy = pin_policy_of pin; pin_object = object; tables = tables }
-
 -- until the index is written, the table that it names stands before the new one
 abbrev pub tables_between : Option Table → Table → List Table
 tables_between None table = table ∷ []
@@ -52,6 +49,11 @@ update_changes old index pin object named table =
     ∷ change.Tpm (tpm.Write index pin (content_for table))
     ∷ change.File (policy_text (stated index pin object (table ∷ [])))
     ∷ evict_changes old
+
+-- by what the index holds before: nothing, or what it holds for the table that is named, if for one
+abbrev pub put_changes : Before → Option ℕ → ℕ → List ℕ → ℕ → Table → List Change
+put_changes before.Unwritten old index pin object table = force_changes old index pin table object
+put_changes (before.Written named) old index pin object table = update_changes old index pin object named table
 
 unfoldable pub updated_text : List ℕ
 updated_text = codes "updated" ++ line_end
@@ -77,3 +79,7 @@ kept_line text path policy pin content table m =
 -- a table that was named is valid
 abbrev pub IsNamed : Option Table → Type 0
 IsNamed named = IfSome named (λ table. valid_table table ≡ true)
+
+abbrev pub IsBefore : Before → Type 0
+IsBefore before.Unwritten = Unit {0}
+IsBefore (before.Written named) = IsNamed named

@@ -1,24 +1,14 @@
-//! The changes by which a policy is put in force.
-ghost use Rattle.std.specs.Prelude.{◌≡◌, true, ◌≤◌, length, IfOk, IfErr};
+//! A new index, and what it holds.
+ghost use Rattle.std.specs.Prelude.{◌≡◌, true, IfOk};
 ghost use Rattle.policy_digest.specs.Table.{valid_table};
-ghost use Rattle.policy_file.specs.PolicyText.{IsIndex, IsPolicy, policy_text};
-ghost use Rattle.policy_file.specs.TokenText.{IsObject};
-ghost use Rattle.pcrlock_update.specs.NewPolicy.{content_for, define_changes as changes_to_define, evict_changes as changes_to_evict, force_changes as changes_to_force, new_policy as policy_for, new_public as public_for};
+ghost use Rattle.pcrlock_update.specs.NewPolicy.{content_for, define_changes as changes_to_define, new_public as public_for};
 
 use crate::change::{Change, TpmChange};
-use nv_index::NvPublic;
+use nv_index::{CONTENT_SIZE, DEFINED_ATTRIBUTES, NvPublic};
 use or_tree::build;
 use pl_base::{List, Memory, Small};
 use policy_digest::{Table, pin_policy};
-use policy_file::{Policy, write_policy};
 use std::alloc::Global;
-
-/// The attributes of a new index: POLICYWRITE, OWNERREAD, AUTHREAD and NO_DA (TPM 2.0 Library Part 2,
-/// TPMA_NV).
-const DEFINED: u32 = 0x0206_0008;
-
-/// The size of what an index holds.
-const CONTENT_SIZE: u16 = 34;
 
 /// The public area of a new index that is written with the pin.
 fn new_public(index: u32, pin: &[u8; 32]) -> NvPublic
@@ -26,7 +16,7 @@ fn new_public(index: u32, pin: &[u8; 32]) -> NvPublic
 {
     NvPublic {
         handle: index,
-        attributes: DEFINED,
+        attributes: DEFINED_ATTRIBUTES,
         policy: pin_policy(pin),
         size: CONTENT_SIZE,
     }
@@ -49,43 +39,6 @@ pub(crate) fn define_changes(
     Ok(changes)
 }
 
-/// What the policy file says.
-fn new_policy(
-    alloc: Global,
-    index: u32,
-    pin: &[u8; 32],
-    object: u32,
-    table: &Table,
-) -> Result<Policy, Memory>
-    ensures { IfOk result (λ policy. policy ≡ policy_for index pin.now object table.now) }
-{
-    let mut tables = List::new(alloc);
-    tables.push(table.copy(alloc)?)?;
-    Ok(Policy {
-        handle: index,
-        index_policy: pin_policy(pin),
-        pin_object: object,
-        tables,
-    })
-}
-
-/// The text of the policy file.
-fn policy_bytes(
-    alloc: Global,
-    index: u32,
-    pin: &[u8; 32],
-    object: u32,
-    table: &Table,
-) -> Result<List<u8>, Memory>
-    requires index { IsIndex index }
-    requires object { IsObject object }
-    requires table { valid_table table.now ≡ true }
-    ensures { IfOk result (λ bytes. bytes ≡ policy_text (policy_for index pin.now object table.now)) }
-{
-    let policy = new_policy(alloc, index, pin, object, table)?;
-    Ok(List::from_vec(write_policy(alloc, &policy)?))
-}
-
 /// What the index holds for the table.
 pub(crate) fn content(alloc: Global, table: &Table) -> Result<Small, Memory>
     requires { valid_table table.now ≡ true }
@@ -99,34 +52,4 @@ pub(crate) fn content(alloc: Global, table: &Table) -> Result<Small, Memory>
         Some(content) => Ok(content),
         None => Err(Memory),
     }
-}
-
-/// The changes that put the table in force: the policy file is written, then the index, and then the
-/// object with an old policy's pin is taken away.
-pub(crate) fn force_changes(
-    alloc: Global,
-    old: Option<u32>,
-    index: u32,
-    pin: &[u8; 32],
-    table: &Table,
-    object: u32,
-) -> Result<List<Change>, Memory>
-    requires index { IsIndex index }
-    requires object { IsObject object }
-    requires table { valid_table table.now ≡ true }
-    ensures { IfOk result (λ changes. changes ≡ changes_to_force old index pin.now table.now object) }
-{
-    let bytes = policy_bytes(alloc, index, pin, object, table)?;
-    let value = content(alloc, table)?;
-    let mut changes = List::new(alloc);
-    changes.push(Change::File(bytes))?;
-    changes.push(Change::Tpm(TpmChange::Write {
-        index,
-        pin: *pin,
-        value,
-    }))?;
-    if let Some(object) = old {
-        changes.push(Change::Tpm(TpmChange::Evict(object)))?;
-    }
-    Ok(changes)
 }

@@ -8,7 +8,7 @@ ghost use Rattle.pcrlock_update.specs.Changes.{Works, CameTo, answer_for, refusa
 ghost use Rattle.pcrlock_update.specs.Sending.{Sent};
 
 use crate::change::{Change, TpmChange};
-use pcrlock_answer::Answer;
+use pcrlock_answer::{Answer, limit};
 use pcrlock_line::{Stop, ask, replace_file};
 use pl_base::{Files, Name};
 use std::alloc::Global;
@@ -31,41 +31,40 @@ fn command_of(change: &TpmChange) -> Command
     }
 }
 
-/// The answer for a number over the limit of what is counted under the name.
-fn limit(alloc: Global, kind: &str, number: u64) -> Result<Option<Answer>, Stop>
-    ensures told { IfOk result (λ answer. answer ≡ Some (Answer.Limit kind.now number)) }
+/// The answer for a refusal of a change, None where it is passed over: an object that is taken away need not be there.
+/// Each change has its own refusals; another one, which no state gives, counts as want of memory.
+fn answer_to(alloc: Global, change: &TpmChange, refusal: &Refusal) -> Result<Option<Answer>, Stop>
+    ensures told { IfOk result (λ answer. answer ≡ answer_for change.now refusal.now) }
     ensures cause { IfErr result (λ stop. stop ≡ Stop.Memory) }
 {
-    match Name::from_text(alloc, kind) {
-        Ok(kind) => Ok(Some(Answer::Limit { kind, number })),
-        Err(_) => Err(Stop::Memory),
+    match change {
+        TpmChange::Undefine(_) => Err(Stop::Memory),
+        TpmChange::Define(_) => match refusal {
+            Refusal::TableFull => match limit(alloc, "indices", 17) {
+                Ok(answer) => Ok(Some(answer)),
+                Err(_) => Err(Stop::Memory),
+            },
+            _ => Err(Stop::Memory),
+        },
+        TpmChange::Write { .. } => match refusal {
+            Refusal::CounterEnd(_) => Ok(Some(Answer::CounterEnd { writes: true })),
+            _ => Err(Stop::Memory),
+        },
+        TpmChange::Evict(_) => match refusal {
+            Refusal::Handle(_) => Ok(None),
+            _ => Err(Stop::Memory),
+        },
     }
 }
 
-/// The answer for a refusal, None for one that is passed over. One that no state gives counts as want
-/// of memory.
-fn answer_to(alloc: Global, refusal: &Refusal) -> Result<Option<Answer>, Stop>
-    ensures told { IfOk result (λ answer. answer ≡ answer_for refusal.now) }
-    ensures cause { IfErr result (λ stop. stop ≡ Stop.Memory) }
-{
-    match refusal {
-        Refusal::Handle(_) => Ok(None),
-        Refusal::TableFull => limit(alloc, "indices", 17),
-        Refusal::ObjectsFull => limit(alloc, "objects", 65),
-        Refusal::HandlesEnd => limit(alloc, "handles", 0x0080_0000),
-        Refusal::CounterEnd(_) => Ok(Some(Answer::CounterEnd { writes: true })),
-        _ => Err(Stop::Memory),
-    }
-}
-
-/// The answer for which changes end, where the TPM refused.
-fn refused(alloc: Global, response: &Response) -> Result<Option<Answer>, Stop>
-    ensures told { IfOk result (λ answer. answer ≡ refusal_in response.now) }
+/// The answer for which changes end, where the TPM refused the change.
+fn refused(alloc: Global, change: &TpmChange, response: &Response) -> Result<Option<Answer>, Stop>
+    ensures told { IfOk result (λ answer. answer ≡ refusal_in change.now response.now) }
     ensures cause { IfErr result (λ stop. stop ≡ Stop.Memory) }
 {
     match response {
         Response::Done => Ok(None),
-        Response::Refused(refusal) => answer_to(alloc, refusal),
+        Response::Refused(refusal) => answer_to(alloc, change, refusal),
         _ => Err(Stop::Memory),
     }
 }
@@ -75,10 +74,10 @@ fn send<T: Tpm>(alloc: Global, tpm: &mut T, change: &TpmChange) -> Result<Option
     requires { T.ready tpm.old ≡ true }
     ensures causes { HasCauses (0, 0, T.faults tpm.old, 0) (0, 0, T.faults tpm.new, 0) result }
     ensures readiness { IfOk result (λ _. T.ready tpm.new ≡ true) }
-    ensures sent { (s : Parts) → Runs (T.live tpm.old) (T.stored tpm.old) s → Sent result (T.live tpm.new) (T.stored tpm.new) (command_for change.now) s }
+    ensures sent { (s : Parts) → Runs (T.live tpm.old) (T.stored tpm.old) s → Sent result (T.live tpm.new) (T.stored tpm.new) change.now s }
 {
     match ask(alloc, tpm, &command_of(change)) {
-        Ok(response) => refused(alloc, &response),
+        Ok(response) => refused(alloc, change, &response),
         Err(stop) => Err(stop),
     }
 }

@@ -9,6 +9,7 @@ ghost use Rattle.policy_digest.specs.Pin.{pin_policy_of};
 ghost use Rattle.policy_digest.specs.Table.{valid_table};
 ghost use Rattle.policy_file.specs.declared.policy.Policy.{Policy};
 ghost use Rattle.policy_file.specs.PolicyText.{IsIndex};
+ghost use Rattle.tpm_model.specs.declared.parts.Parts.{Parts};
 ghost use Rattle.tpm_model.specs.Events.{Clean};
 ghost use Rattle.tpm_model.specs.World.{World};
 ghost use Rattle.tpm_worlds.specs.EventLists.{Safe};
@@ -22,6 +23,7 @@ ghost use Rattle.pcrlock_deeds.specs.PolicyAt.{policy_of};
 ghost use Rattle.pcrlock_deeds.specs.Sound.{IsSound};
 ghost use Rattle.pcrlock_update.specs.Acts.{IsInForce, IsNewest, kept_deed, new_deed, pinned_deed, remove_deed, remove_policy_act, taken_pin};
 ghost use Rattle.pcrlock_update.specs.NewPolicy.{new_line};
+ghost use Rattle.pcrlock_update.specs.Refusals.{RefusedOnly};
 ghost use Rattle.pcrlock_update.specs.RemovePolicy.{has_policy, remove_policy_line};
 ghost use Rattle.pcrlock_update.specs.Standing.{is_unchanged};
 ghost use Rattle.pcrlock_update.specs.Update.{kept_line, pinned_line};
@@ -34,6 +36,11 @@ pub fn removal_is_an_act()
     ensures leaves { (path : List ℕ) (policy : Policy) (m : Live) (w : World) → (world (remove_deed path policy) m w).filed ≡ None }
     ensures index { (path : List ℕ) (policy : Policy) (m : Live) (w : World) → has_policy policy.index_policy (index_at policy.handle m.state.indices) ≡ true
         → get (world (remove_deed path policy) m w).live policy.handle ≡ None }
+{}
+
+/// On each state a change is refused for the reasons that are named, and for no other one.
+pub fn changes_are_refused_only()
+    ensures { (s : Parts) → RefusedOnly s }
 {}
 
 /// The changes by which a table is put in force come to deeds.

@@ -5,15 +5,18 @@
 mod building;
 mod change;
 mod changing;
+mod given;
 pub mod laws;
 mod lines;
 mod making;
+mod putting;
 mod removing;
 mod replacing;
 mod sealing;
 mod standing;
 mod updating;
 
+pub use crate::given::Given;
 pub use crate::making::make_new_policy;
 pub use crate::removing::remove_policy;
 pub use crate::replacing::{update_policy, update_with_pin};

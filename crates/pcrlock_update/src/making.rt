@@ -1,25 +1,22 @@
 //! A policy is put in force where no index, or an unwritten one, stands under its handle.
-ghost use Rattle.std.specs.Prelude.{◌≡◌, ◌++◌, ℕ, true, List as Sequence, option_copied, Option as Maybe, None, Some, IfOk, IfErr, IfSome};
-ghost use Rattle.tpm_model.specs.declared.parts.Parts.{Parts};
+ghost use Rattle.std.specs.Prelude.{◌≡◌, ◌++◌, ℕ, true, List as Sequence, option_copied, Option as Maybe, None, Some, IfOk, IfErr};
 ghost use Rattle.policy_digest.specs.Table.{valid_table};
 ghost use Rattle.policy_file.specs.PolicyText.{IsIndex};
-ghost use Rattle.policy_file.specs.TokenText.{IsObject};
 ghost use Rattle.pcrlock_line.specs.Causes.{HasCauses};
 ghost use Rattle.pcrlock_line.specs.Machine.{Live, Tells, machine};
 ghost use Rattle.pcrlock_line.specs.Outcome.{Gives};
 ghost use Rattle.pcrlock_line.specs.Stopped.{StandsAmong};
 ghost use Rattle.pcrlock_update.specs.Changes.{Works, CameTo, changes_made};
-ghost use Rattle.pcrlock_update.specs.NewPolicy.{define_changes as changes_to_define, force_changes as changes_to_force, new_line, new_made, new_with};
-ghost use Rattle.pcrlock_update.specs.Sealed.{pin_made};
+ghost use Rattle.pcrlock_update.specs.NewPolicy.{define_changes as changes_to_define, new_line, new_made, new_with};
 
-use crate::building::{define_changes, force_changes};
+use crate::building::define_changes;
 use crate::changing::perform_all;
+use crate::given::Given;
 use crate::lines::{with_made, with_pin};
-use crate::sealing::seal_pin;
+use crate::putting::{Before, seal_and_put};
 use pcrlock_answer::Answer;
 use pcrlock_line::{Reply, Stop, draw};
-use pl_base::{Entropy, Files, Name};
-use policy_digest::Table;
+use pl_base::{Entropy, Files};
 use std::alloc::Global;
 use tpm_device::Tpm;
 
@@ -28,73 +25,19 @@ fn define_index<F: Files, T: Tpm>(
     alloc: Global,
     files: &mut F,
     tpm: &mut T,
-    path: &Name,
+    given: &Given<'_>,
     stands: bool,
-    index: u32,
     pin: &[u8; 32],
 ) -> Result<Option<Answer>, Stop>
     requires { T.ready tpm.old ≡ true }
     ensures causes { HasCauses (F.faults files.old, 0, T.faults tpm.old, 0) (F.faults files.new, 0, T.faults tpm.new, 0) result }
     ensures readiness { IfOk result (λ _. T.ready tpm.new ≡ true) }
     ensures made { (m : Live) → Works (F.held files.old) (T.live tpm.old) (T.stored tpm.old) m
-        → CameTo result (F.held files.new) (T.live tpm.new) (T.stored tpm.new) (changes_made path.now (changes_to_define stands index pin.now) m) }
+        → CameTo result (F.held files.new) (T.live tpm.new) (T.stored tpm.new) (changes_made given.now.path.now (changes_to_define stands given.now.index pin.now) m) }
 {
-    match define_changes(alloc, stands, index, pin) {
-        Ok(changes) => perform_all(alloc, files, tpm, path, changes.as_slice()),
+    match define_changes(alloc, stands, given.index, pin) {
+        Ok(changes) => perform_all(alloc, files, tpm, given.path, changes.as_slice()),
         Err(_) => Err(Stop::Memory),
-    }
-}
-
-/// Puts the table in force: writes the policy file and the index, and takes an old pin away.
-fn put_in_force<F: Files, T: Tpm>(
-    alloc: Global,
-    files: &mut F,
-    tpm: &mut T,
-    path: &Name,
-    old: Option<u32>,
-    index: u32,
-    pin: &[u8; 32],
-    table: &Table,
-    object: u32,
-) -> Result<Option<Answer>, Stop>
-    requires readiness { T.ready tpm.old ≡ true }
-    requires index { IsIndex index }
-    requires object { IsObject object }
-    requires table { valid_table table.now ≡ true }
-    ensures causes { HasCauses (F.faults files.old, 0, T.faults tpm.old, 0) (F.faults files.new, 0, T.faults tpm.new, 0) result }
-    ensures readiness { IfOk result (λ _. T.ready tpm.new ≡ true) }
-    ensures made { (m : Live) → Works (F.held files.old) (T.live tpm.old) (T.stored tpm.old) m
-        → CameTo result (F.held files.new) (T.live tpm.new) (T.stored tpm.new) (changes_made path.now (changes_to_force old index pin.now table.now object) m) }
-{
-    match force_changes(alloc, old, index, pin, table, object) {
-        Ok(changes) => perform_all(alloc, files, tpm, path, changes.as_slice()),
-        Err(_) => Err(Stop::Memory),
-    }
-}
-
-/// Seals the pin, and puts the table in force.
-fn seal_and_force<F: Files, T: Tpm>(
-    alloc: Global,
-    files: &mut F,
-    tpm: &mut T,
-    path: &Name,
-    old: Option<u32>,
-    index: u32,
-    pin: &[u8; 32],
-    table: &Table,
-) -> Result<Option<Answer>, Stop>
-    requires readiness { T.ready tpm.old ≡ true }
-    requires index { IsIndex index }
-    requires table { valid_table table.now ≡ true }
-    ensures causes { HasCauses (F.faults files.old, 0, T.faults tpm.old, 0) (F.faults files.new, 0, T.faults tpm.new, 0) result }
-    ensures readiness { IfOk result (λ _. T.ready tpm.new ≡ true) }
-    ensures made { (m : Live) → Works (F.held files.old) (T.live tpm.old) (T.stored tpm.old) m
-        → CameTo result (F.held files.new) (T.live tpm.new) (T.stored tpm.new) (pin_made index pin.now (λ object. changes_made path.now (changes_to_force old index pin.now table.now object)) m) }
-{
-    match seal_pin(alloc, tpm, index, pin) {
-        Ok(Ok(object)) => put_in_force(alloc, files, tpm, path, old, index, pin, table, object),
-        Ok(Err(answer)) => Ok(Some(answer)),
-        Err(stop) => Err(stop),
     }
 }
 
@@ -103,22 +46,20 @@ fn make_new<F: Files, T: Tpm>(
     alloc: Global,
     files: &mut F,
     tpm: &mut T,
-    path: &Name,
+    given: &Given<'_>,
     old: Option<u32>,
     stands: bool,
-    index: u32,
     pin: &[u8; 32],
-    table: &Table,
 ) -> Result<Option<Answer>, Stop>
     requires readiness { T.ready tpm.old ≡ true }
-    requires index { IsIndex index }
-    requires table { valid_table table.now ≡ true }
+    requires index { IsIndex given.now.index }
+    requires table { valid_table given.now.table.now ≡ true }
     ensures causes { HasCauses (F.faults files.old, 0, T.faults tpm.old, 0) (F.faults files.new, 0, T.faults tpm.new, 0) result }
     ensures made { (m : Live) → Works (F.held files.old) (T.live tpm.old) (T.stored tpm.old) m
-        → CameTo result (F.held files.new) (T.live tpm.new) (T.stored tpm.new) (new_made path.now old stands index pin.now table.now m) }
+        → CameTo result (F.held files.new) (T.live tpm.new) (T.stored tpm.new) (new_made given.now.path.now old stands given.now.index pin.now given.now.table.now m) }
 {
-    match define_index(alloc, files, tpm, path, stands, index, pin) {
-        Ok(None) => seal_and_force(alloc, files, tpm, path, old, index, pin, table),
+    match define_index(alloc, files, tpm, given, stands, pin) {
+        Ok(None) => seal_and_put(alloc, files, tpm, given, pin, old, Before::Unwritten),
         Ok(Some(answer)) => Ok(Some(answer)),
         Err(stop) => Err(stop),
     }
@@ -129,27 +70,25 @@ fn make_with<F: Files, T: Tpm>(
     alloc: Global,
     files: &mut F,
     tpm: &mut T,
-    path: &Name,
+    given: &Given<'_>,
     old: Option<u32>,
     stands: bool,
-    index: u32,
     pin: &[u8; 32],
-    table: &Table,
     text: Vec<u8>,
 ) -> Result<Reply, Stop>
     requires readiness { T.ready tpm.old ≡ true }
-    requires index { IsIndex index }
-    requires table { valid_table table.now ≡ true }
+    requires index { IsIndex given.now.index }
+    requires table { valid_table given.now.table.now ≡ true }
     ensures causes { HasCauses (F.faults files.old, 0, T.faults tpm.old, 0) (F.faults files.new, 0, T.faults tpm.new, 0) result }
     ensures told { (words : Maybe (Sequence (Sequence ℕ))) (m : Live) → Tells (F.held files.old) (T.stored tpm.old) words (machine m) → T.live tpm.old ≡ Some m.state
-        → IfOk result (λ reply. Gives (F.held files.new) (T.stored tpm.new) words reply (new_with text.items path.now old stands index table.now pin.now m)) }
+        → IfOk result (λ reply. Gives (F.held files.new) (T.stored tpm.new) words reply (new_with text.items given.now.path.now old stands given.now.index given.now.table.now pin.now m)) }
     ensures stops { (words : Maybe (Sequence (Sequence ℕ))) (m : Live) → Tells (F.held files.old) (T.stored tpm.old) words (machine m) → T.live tpm.old ≡ Some m.state
-        → IfErr result (λ _. StandsAmong (F.held files.new) (T.stored tpm.new) (new_with text.items path.now old stands index table.now pin.now m).stops) }
+        → IfErr result (λ _. StandsAmong (F.held files.new) (T.stored tpm.new) (new_with text.items given.now.path.now old stands given.now.index given.now.table.now pin.now m).stops) }
 {
     let Ok(text) = with_made(text) else {
         return Err(Stop::Memory);
     };
-    match make_new(alloc, files, tpm, path, old, stands, index, pin, table) {
+    match make_new(alloc, files, tpm, given, old, stands, pin) {
         Ok(None) => Ok(Reply::Fine(text)),
         Ok(Some(answer)) => Ok(Reply::Refused(answer)),
         Err(stop) => Err(stop),
@@ -162,34 +101,30 @@ fn make_drawn<F: Files, T: Tpm, E: Entropy>(
     files: &mut F,
     tpm: &mut T,
     entropy: &mut E,
-    path: &Name,
+    given: &Given<'_>,
     old: Option<u32>,
     stands: bool,
-    index: u32,
-    table: &Table,
     text: Vec<u8>,
 ) -> Result<Reply, Stop>
     requires readiness { T.ready tpm.old ≡ true }
-    requires index { IsIndex index }
-    requires table { valid_table table.now ≡ true }
+    requires index { IsIndex given.now.index }
+    requires table { valid_table given.now.table.now ≡ true }
     ensures causes { HasCauses (F.faults files.old, E.faults entropy.old, T.faults tpm.old, 0) (F.faults files.new, E.faults entropy.new, T.faults tpm.new, 0) result }
     ensures told { (m : Live) → Tells (F.held files.old) (T.stored tpm.old) (E.draws entropy.old) (machine m) → T.live tpm.old ≡ Some m.state
-        → IfOk result (λ reply. Gives (F.held files.new) (T.stored tpm.new) (E.draws entropy.new) reply (new_line text.items path.now old stands index table.now None m)) }
+        → IfOk result (λ reply. Gives (F.held files.new) (T.stored tpm.new) (E.draws entropy.new) reply (new_line text.items given.now.path.now old stands given.now.index given.now.table.now None m)) }
     ensures stops { (m : Live) → Tells (F.held files.old) (T.stored tpm.old) (E.draws entropy.old) (machine m) → T.live tpm.old ≡ Some m.state
-        → IfErr result (λ _. StandsAmong (F.held files.new) (T.stored tpm.new) (new_line text.items path.now old stands index table.now None m).stops) }
+        → IfErr result (λ _. StandsAmong (F.held files.new) (T.stored tpm.new) (new_line text.items given.now.path.now old stands given.now.index given.now.table.now None m).stops) }
 {
     match draw(entropy) {
         Ok(pin) => match with_pin(alloc, text, &pin) {
-            Ok(text) => make_with(
-                alloc, files, tpm, path, old, stands, index, &pin, table, text,
-            ),
+            Ok(text) => make_with(alloc, files, tpm, given, old, stands, &pin, text),
             Err(_) => Err(Stop::Memory),
         },
         Err(stop) => Err(stop),
     }
 }
 
-/// Puts a new policy by the table in force under the index, where no index or an unwritten one stands
+/// Puts a new policy by the given table in force under the index, where no index or an unwritten one stands
 /// there; `stands` says that an unwritten one does. The index is taken away where it stands, and
 /// defined anew; the pin is sealed, bound to the index; the policy file at the path is written; then
 /// the index is written, with the table's policy; and then `old`, the object that held the pin of an
@@ -212,29 +147,23 @@ pub fn make_new_policy<F: Files, T: Tpm, E: Entropy>(
     files: &mut F,
     tpm: &mut T,
     entropy: &mut E,
-    path: &Name,
+    given: &Given<'_>,
     old: Option<u32>,
     stands: bool,
-    index: u32,
-    table: &Table,
     pin: Option<&[u8; 32]>,
     text: Vec<u8>,
 ) -> Result<Reply, Stop>
     requires readiness { T.ready tpm.old ≡ true }
-    requires index { IsIndex index }
-    requires table { valid_table table.now ≡ true }
+    requires index { IsIndex given.now.index }
+    requires table { valid_table given.now.table.now ≡ true }
     ensures causes { HasCauses (F.faults files.old, E.faults entropy.old, T.faults tpm.old, 0) (F.faults files.new, E.faults entropy.new, T.faults tpm.new, 0) result }
     ensures told { (m : Live) → Tells (F.held files.old) (T.stored tpm.old) (E.draws entropy.old) (machine m) → T.live tpm.old ≡ Some m.state
-        → IfOk result (λ reply. Gives (F.held files.new) (T.stored tpm.new) (E.draws entropy.new) reply (new_line text.items path.now old stands index table.now (option_copied pin.entry) m)) }
+        → IfOk result (λ reply. Gives (F.held files.new) (T.stored tpm.new) (E.draws entropy.new) reply (new_line text.items given.now.path.now old stands given.now.index given.now.table.now (option_copied pin.entry) m)) }
     ensures stops { (m : Live) → Tells (F.held files.old) (T.stored tpm.old) (E.draws entropy.old) (machine m) → T.live tpm.old ≡ Some m.state
-        → IfErr result (λ _. StandsAmong (F.held files.new) (T.stored tpm.new) (new_line text.items path.now old stands index table.now (option_copied pin.entry) m).stops) }
+        → IfErr result (λ _. StandsAmong (F.held files.new) (T.stored tpm.new) (new_line text.items given.now.path.now old stands given.now.index given.now.table.now (option_copied pin.entry) m).stops) }
 {
     match pin {
-        Some(pin) => make_with(
-            alloc, files, tpm, path, old, stands, index, pin, table, text,
-        ),
-        None => make_drawn(
-            alloc, files, tpm, entropy, path, old, stands, index, table, text,
-        ),
+        Some(pin) => make_with(alloc, files, tpm, given, old, stands, pin, text),
+        None => make_drawn(alloc, files, tpm, entropy, given, old, stands, text),
     }
 }

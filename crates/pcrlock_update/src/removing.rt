@@ -1,8 +1,6 @@
 //! `remove-policy`: the index that holds the policy in force, the object that holds its pin and the
 //! policy file are taken away.
 ghost use Rattle.std.specs.Prelude.{◌≡◌, ◌⊎◌, ℕ, true, List as Sequence, Option, Some, Ok, IfOk, IfErr, OnOk};
-ghost use Rattle.std.specs.FinMap.{get, remove};
-ghost use Rattle.pl_base.specs.FileMap.{FileMap};
 ghost use Rattle.nv_index.specs.Table.{index_at};
 ghost use Rattle.tpm_model.specs.declared.parts.Parts.{Parts};
 ghost use Rattle.tpm_model.specs.IndexCommands.{nv_undefine};
@@ -15,10 +13,10 @@ ghost use Rattle.pcrlock_line.specs.Stopped.{StandsAmong};
 ghost use Rattle.pcrlock_deeds.specs.PolicyAt.{policy_of};
 ghost use Rattle.pcrlock_update.specs.RemovePolicy.{has_policy, shows_policy as shows, is_done as is_done_of, is_gone as is_gone_of, without_index, without_pin, removed_text as text_of_removal, removed_line, removal_line, remove_policy_line};
 
-use pcrlock_answer::Answer;
+use pcrlock_answer::no_policy;
 use pcrlock_deeds::policy_at;
-use pcrlock_line::{Reply, Stop, ask, ready};
-use pl_base::{Files, Memory, Name, RemoveError};
+use pcrlock_line::{Reply, Stop, ask, ready, remove_file};
+use pl_base::{Files, Memory, Name};
 use policy_file::Policy;
 use std::alloc::Global;
 use tpm_device::Tpm;
@@ -156,22 +154,6 @@ fn remove_stored<T: Tpm>(alloc: Global, tpm: &mut T, policy: &Policy) -> Result<
     }
 }
 
-/// Removes the file at the path, where one is there. After a stop it is there as before, or gone.
-fn remove_file<F: Files>(alloc: Global, files: &mut F, path: &str) -> Result<(), Stop>
-    ensures causes { HasCauses (F.faults files.old, 0, 0, 0) (F.faults files.new, 0, 0, 0) result }
-    ensures told { (held : FileMap) (bytes : Sequence ℕ) → F.held files.old ≡ Some held → get held path.now ≡ Some bytes
-        → OnOk result (F.held files.new ≡ Some (remove held path.now)) }
-    ensures stops { (held : FileMap) → F.held files.old ≡ Some held
-        → IfErr result (λ _. (F.held files.new ≡ Some held) ⊎ (F.held files.new ≡ Some (remove held path.now))) }
-{
-    match files.remove(alloc, path) {
-        Ok(()) => Ok(()),
-        Err(RemoveError::Missing) => Ok(()),
-        Err(RemoveError::Failed) => Err(Stop::WriteFault),
-        Err(RemoveError::Memory) => Err(Stop::Memory),
-    }
-}
-
 /// Takes the policy off the ready TPM, and then its file away.
 fn remove_all<F: Files, T: Tpm>(
     alloc: Global,
@@ -182,8 +164,7 @@ fn remove_all<F: Files, T: Tpm>(
 ) -> Result<Reply, Stop>
     requires { T.ready tpm.old ≡ true }
     ensures causes { HasCauses (F.faults files.old, 0, T.faults tpm.old, 0) (F.faults files.new, 0, T.faults tpm.new, 0) result }
-    ensures told { (words : Option (Sequence (Sequence ℕ))) (m : Live) (bytes : Sequence ℕ) → Tells (F.held files.old) (T.stored tpm.old) words (machine m) → T.live tpm.old ≡ Some m.state
-        → get m.files path.now ≡ Some bytes
+    ensures told { (words : Option (Sequence (Sequence ℕ))) (m : Live) → Tells (F.held files.old) (T.stored tpm.old) words (machine m) → T.live tpm.old ≡ Some m.state
         → IfOk result (λ reply. Gives (F.held files.new) (T.stored tpm.new) words reply (removed_line path.now policy.now m)) }
     ensures stops { (words : Option (Sequence (Sequence ℕ))) (m : Live) → Tells (F.held files.old) (T.stored tpm.old) words (machine m) → T.live tpm.old ≡ Some m.state
         → IfErr result (λ _. StandsAmong (F.held files.new) (T.stored tpm.new) (removed_line path.now policy.now m).stops) }
@@ -193,7 +174,7 @@ fn remove_all<F: Files, T: Tpm>(
     };
     match remove_stored(alloc, tpm, policy) {
         Ok(()) => match remove_file(alloc, files, path.text()) {
-            Ok(()) => Ok(Reply::Fine(text)),
+            Ok(_) => Ok(Reply::Fine(text)),
             Err(stop) => Err(stop),
         },
         Err(stop) => Err(stop),
@@ -210,8 +191,7 @@ fn remove_read<F: Files, T: Tpm>(
     policy: &Policy,
 ) -> Result<Reply, Stop>
     ensures causes { HasCauses (F.faults files.old, 0, T.faults tpm.old, 0) (F.faults files.new, 0, T.faults tpm.new, 0) result }
-    ensures told { (words : Option (Sequence (Sequence ℕ))) (m : Machine) (bytes : Sequence ℕ) → Tells (F.held files.old) (T.stored tpm.old) words m
-        → get m.files path.now ≡ Some bytes
+    ensures told { (words : Option (Sequence (Sequence ℕ))) (m : Machine) → Tells (F.held files.old) (T.stored tpm.old) words m
         → IfOk result (λ reply. Gives (F.held files.new) (T.stored tpm.new) words reply (removal_line state.now path.now policy.now m)) }
     ensures stops { (words : Option (Sequence (Sequence ℕ))) (m : Machine) → Tells (F.held files.old) (T.stored tpm.old) words m
         → IfErr result (λ _. StandsAmong (F.held files.new) (T.stored tpm.new) (removal_line state.now path.now policy.now m).stops) }
@@ -221,13 +201,6 @@ fn remove_read<F: Files, T: Tpm>(
         Ok(Some(answer)) => Ok(Reply::Refused(answer)),
         Err(stop) => Err(stop),
     }
-}
-
-/// The answer where no policy file stands at the path.
-fn no_policy(alloc: Global, path: &Name) -> Result<Answer, Memory>
-    ensures { IfOk result (λ answer. answer ≡ Answer.NoPolicy path.now) }
-{
-    Ok(Answer::NoPolicy(path.copy(alloc)?))
 }
 
 /// Takes away the policy that the file at the path states: the index under its handle, where that has
@@ -263,7 +236,7 @@ pub fn remove_policy<F: Files, T: Tpm>(
             Ok(reply) => Ok(reply),
             Err(stop) => Err(stop),
         },
-        Ok(Ok(None)) => match no_policy(alloc, path) {
+        Ok(Ok(None)) => match no_policy(alloc, path.text()) {
             Ok(answer) => Ok(Reply::Refused(answer)),
             Err(_) => Err(Stop::Memory),
         },

@@ -8,21 +8,14 @@ ghost use Rattle.pcrlock_line.specs.Running.{Runs};
 ghost use Rattle.pcrlock_update.specs.Sealed.{sealed_in as sealed_by, SealedSo};
 
 use hash_bank::Digest;
-use nv_index::{NvPublic, index_name};
-use pcrlock_answer::Answer;
+use nv_index::{CONTENT_SIZE, NvPublic, WRITTEN_ATTRIBUTES, index_name};
+use pcrlock_answer::{Answer, limit};
 use pcrlock_line::{Stop, ask};
-use pl_base::{Name, Small};
+use pl_base::Small;
 use policy_digest::{pin_policy, policy_authorize_nv};
 use std::alloc::Global;
 use tpm_device::Tpm;
 use tpm_model::{Command, Refusal, Response};
-
-/// The attributes of a written index: POLICYWRITE, OWNERREAD, AUTHREAD, NO_DA and WRITTEN (TPM 2.0
-/// Library Part 2, TPMA_NV).
-const WRITTEN: u32 = 0x2206_0008;
-
-/// The size of what an index holds.
-const CONTENT_SIZE: u16 = 34;
 
 /// The policy by which an index opens an object: PolicyAuthorizeNV with the Name that the index has
 /// once it is written with the pin.
@@ -31,7 +24,7 @@ fn policy_of_index(index: u32, pin: &[u8; 32]) -> Digest
 {
     let public = NvPublic {
         handle: index,
-        attributes: WRITTEN,
+        attributes: WRITTEN_ATTRIBUTES,
         policy: pin_policy(pin),
         size: CONTENT_SIZE,
     };
@@ -49,17 +42,6 @@ fn seal_command(index: u32, pin: &[u8; 32]) -> Option<Command>
             secret,
         }),
         None => None,
-    }
-}
-
-/// An answer for a number over the limit of what is counted under the name.
-fn limit(alloc: Global, kind: &str, number: u64) -> Result<Answer, Stop>
-    ensures told { IfOk result (λ answer. answer ≡ Answer.Limit kind.now number) }
-    ensures cause { IfErr result (λ stop. stop ≡ Stop.Memory) }
-{
-    match Name::from_text(alloc, kind) {
-        Ok(kind) => Ok(Answer::Limit { kind, number }),
-        Err(_) => Err(Stop::Memory),
     }
 }
 

@@ -2,7 +2,6 @@
 ghost use Rattle.std.specs.Prelude.{◌≡◌, ◌==◌, ◌||◌, true, length, option_copied, Some, None, IfOk, IfErr, IfSome};
 ghost use Rattle.std.specs.Cmp.Lexicographic.{pointwise};
 ghost use Rattle.std.specs.List.{list_any};
-ghost use Rattle.std.specs.Str.{bytes_eq};
 ghost use Rattle.policy_digest.specs.Table.{valid_table, values_eq};
 ghost use Rattle.pcrlock_update.specs.Standing.{file_has as file_has_digest, file_holds as file_holds_table, is_unchanged as nothing_changes, pin_has as pin_has_policy, same_row, same_table, standing_of, with_given as with_given_pin};
 
@@ -66,19 +65,12 @@ fn is_among(table: &Table, tables: &[Table]) -> bool
     tables.iter().any(|other| is_same_table(table, other))
 }
 
-/// Whether both digests are the same.
-fn is_same_digest(a: &Digest, b: &Digest) -> bool
-    ensures { result ≡ bytes_eq a.now b.now }
-{
-    a.as_slice() == b.as_slice()
-}
-
 /// Whether the policy file has this digest of a policy.
 fn file_has(digest: &Digest, found: Option<&Policy>) -> bool
     ensures { result ≡ file_has_digest digest.now (option_copied found.entry) }
 {
     match found {
-        Some(policy) => is_same_digest(&policy.index_policy, digest),
+        Some(policy) => policy.index_policy.is_same(digest),
         None => false,
     }
 }
@@ -98,7 +90,7 @@ fn pin_has(digest: &Digest, pin: Option<&[u8; 32]>) -> bool
     ensures { result ≡ pin_has_policy digest.now (option_copied pin.entry) }
 {
     match pin {
-        Some(pin) => is_same_digest(&pin_policy(pin), digest),
+        Some(pin) => pin_policy(pin).is_same(digest),
         None => false,
     }
 }
@@ -131,7 +123,7 @@ fn with_given(pin: Option<&[u8; 32]>, index: &Digest, same: bool) -> Result<bool
     match pin {
         Some(pin) => {
             let given = pin_policy(pin);
-            if is_same_digest(&given, index) {
+            if given.is_same(index) {
                 Ok(same)
             } else {
                 Err(Answer::PinRefused {

@@ -6,7 +6,7 @@ use pcrlock_answer::Answer;
 use pcrlock_deeds::policy_at;
 use pcrlock_line::{Reply, Stop};
 use pcrlock_update::{
-    make_new_policy, remove_policy, test_standing, update_policy, update_with_pin,
+    Given, make_new_policy, remove_policy, test_standing, update_policy, update_with_pin,
 };
 use pl_base::{Entropy, Fail as Planned, Files, List, ListEntropy, MemFiles, Name, Small};
 use policy_digest::{Row, Table, Values, pin_policy};
@@ -67,16 +67,19 @@ fn make(
     if tpm.begin(alloc).is_err() || !tpm.is_ready() || !table.is_valid() {
         return Err("not ready")?;
     }
+    let given = Given {
+        path: &path,
+        index: INDEX,
+        table: &table,
+    };
     Ok(word(&make_new_policy(
         alloc,
         files,
         tpm,
         &mut entropy,
-        &path,
+        &given,
         None,
         false,
-        INDEX,
-        &table,
         Some(&PIN),
         Vec::new(alloc),
     )))
@@ -155,16 +158,19 @@ fn update(
     }
     let text = Vec::new(alloc);
     if anew {
+        let given = Given {
+            path: &path,
+            index: INDEX,
+            table: &table,
+        };
         Ok(word(&update_with_pin(
             alloc,
             files,
             tpm,
-            &path,
+            &given,
             Some(&policy),
-            INDEX,
             &PIN,
             &content,
-            &table,
             text,
         )))
     } else {

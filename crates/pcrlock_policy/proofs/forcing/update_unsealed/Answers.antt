@@ -3,11 +3,12 @@ use Rattle.std.specs.Prelude.{Ok}
 use Rattle.pcrlock_line.proofs.Composed.{stops, on_tpm}
 use Rattle.pcrlock_line.specs.declared.reply.Reply.TheVariants as reply
 use Rattle.pcrlock_line.specs.Machine.{Live}
+use Rattle.pcrlock_open.proofs.Opens.{safe_left}
 use Rattle.pcrlock_open.specs.Bound.{held_after, held_by, held_opened, held_strings}
 use Rattle.pcrlock_policy.specs.Asked.{target_of}
 use Rattle.pcrlock_policy.specs.Foreseen.{foreseen_of}
 use Rattle.pcrlock_policy.specs.MakePolicy.{pin_by, unsealed_line}
-use Rattle.pcrlock_policy.proofs.Forced.{behind_stands, behind_told, kept_at, safe_left, stands_as, told_as}
+use Rattle.pcrlock_policy.proofs.Forced.{behind_stands, behind_told, kept_at, stands_as, told_as}
 use Rattle.pcrlock_policy.proofs.forcing.update_unsealed.Goals as goal
 
 pub returns-in-Ok-Ok-clause-told : goal.returns-in-Ok-Ok-clause-told

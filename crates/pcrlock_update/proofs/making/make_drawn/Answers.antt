@@ -12,14 +12,14 @@ returns-in-Ok-with_pin-clause-causes g c =
 pub returns-in-Ok-with_pin-clause-told : goal.returns-in-Ok-with_pin-clause-told
 returns-in-Ok-with_pin-clause-told g c = λ m tells live.
     let drawn = c.in-Ok.ensures.told m.draws tells.draws in
-    drawn_told c.make_with.result _ _ _ c.args.text.items c.in-Ok-with_pin.text.items c.args.path.now c.args.old c.args.stands c.args.index c.args.table.now c.in-Ok.pin m.draws drawn.0 m drawn.1 c.in-Ok-with_pin.ensures
+    drawn_told c.make_with.result _ _ _ c.args.text.items c.in-Ok-with_pin.text.items c.args.given.now.path.now c.args.old c.args.stands c.args.given.now.index c.args.given.now.table.now c.in-Ok.pin m.draws drawn.0 m drawn.1 c.in-Ok-with_pin.ensures
     (c.make_with.ensures.told (g.E.Entropy.draws c.draw.new.entropy) (record m { draws = drawn.0 })
     (record { files = tells.files; state = tells.state; draws = drawn.2 }) live)
 
 pub returns-in-Ok-with_pin-clause-stops : goal.returns-in-Ok-with_pin-clause-stops
 returns-in-Ok-with_pin-clause-stops g c = λ m tells live.
     let drawn = c.in-Ok.ensures.told m.draws tells.draws in
-    drawn_stops c.make_with.result _ _ c.args.text.items c.in-Ok-with_pin.text.items c.args.path.now c.args.old c.args.stands c.args.index c.args.table.now c.in-Ok.pin m.draws drawn.0 m drawn.1 c.in-Ok-with_pin.ensures
+    drawn_stops c.make_with.result _ _ c.args.text.items c.in-Ok-with_pin.text.items c.args.given.now.path.now c.args.old c.args.stands c.args.given.now.index c.args.given.now.table.now c.in-Ok.pin m.draws drawn.0 m drawn.1 c.in-Ok-with_pin.ensures
     (c.make_with.ensures.stops (g.E.Entropy.draws c.draw.new.entropy) (record m { draws = drawn.0 })
     (record { files = tells.files; state = tells.state; draws = drawn.2 }) live)
 

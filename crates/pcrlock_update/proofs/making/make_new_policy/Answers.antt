@@ -14,11 +14,11 @@ returns-in-Some-clause-causes g c =
 pub returns-in-Some-clause-told : goal.returns-in-Some-clause-told
 returns-in-Some-clause-told g c = λ m tells live.
     given_by (λ (o : Outcome). IfOk c.make_with.result (λ reply. Gives (g.F.Files.held c.make_with.new.files) (g.T.Tpm.stored c.make_with.new.tpm) (g.E.Entropy.draws c.args.entropy.now) reply o))
-    c.args.text.items c.args.path.now c.args.old c.args.stands c.args.index c.args.table.now c.in-Some.pin.now (option_copied c.args.pin) m.draws m (ap option_copied c.in-Some.is)
+    c.args.text.items c.args.given.now.path.now c.args.old c.args.stands c.args.given.now.index c.args.given.now.table.now c.in-Some.pin.now (option_copied c.args.pin) m.draws m (ap option_copied c.in-Some.is)
     (c.make_with.ensures.told (g.E.Entropy.draws c.args.entropy.now) m tells live)
 
 pub returns-in-Some-clause-stops : goal.returns-in-Some-clause-stops
 returns-in-Some-clause-stops g c = λ m tells live.
     given_by (λ (o : Outcome). IfErr c.make_with.result (λ _. StandsAmong (g.F.Files.held c.make_with.new.files) (g.T.Tpm.stored c.make_with.new.tpm) o.stops))
-    c.args.text.items c.args.path.now c.args.old c.args.stands c.args.index c.args.table.now c.in-Some.pin.now (option_copied c.args.pin) m.draws m (ap option_copied c.in-Some.is)
+    c.args.text.items c.args.given.now.path.now c.args.old c.args.stands c.args.given.now.index c.args.given.now.table.now c.in-Some.pin.now (option_copied c.args.pin) m.draws m (ap option_copied c.in-Some.is)
     (c.make_with.ensures.stops (g.E.Entropy.draws c.args.entropy.now) m tells live)

@@ -2,17 +2,16 @@ use Rattle.std.proofs.Common.{◌≡◌, sym, ap, ◌∙◌}
 use Rattle.std.specs.Prelude.{Some, Ok}
 use Rattle.pcrlock_line.proofs.Composed.{then_stops, stops, on_files}
 use Rattle.pcrlock_deeds.specs.PolicyAt.{policy_of}
-use Rattle.pcrlock_update.proofs.Removed.{file_there, told_read, stops_read}
+use Rattle.pcrlock_update.proofs.Removed.{told_read, stops_read}
 use Rattle.pcrlock_update.proofs.removing.remove_policy.Goals as goal
 
 pub returns-in-Ok-clause-told : goal.returns-in-Ok-clause-told
 returns-in-Ok-clause-told g c = λ words m tells.
     let read : policy_of m.files c.args.path.now ≡ Ok (Some c.in-Ok-Ok-Some.policy) =
     sym (c.in-Ok-Ok-Some.ensures.told m.files tells.files) ∙ c.in-Ok-Ok-Some.field-0-is ∙ ap Ok c.in-Ok-Ok-Some.field-0-0-is in
-    let stands = file_there m.files c.args.path.now c.in-Ok-Ok-Some.policy read in
     told_read _ _ words c.args.state.now c.args.path.now c.in-Ok-Ok-Some.policy m c.in-Ok.reply read
-    (c.in-Ok.ensures.told words m stands.0
-    (record { files = c.policy_at.ensures.same ∙ tells.files; state = tells.state; draws = tells.draws }) stands.1)
+    (c.in-Ok.ensures.told words m
+    (record { files = c.policy_at.ensures.same ∙ tells.files; state = tells.state; draws = tells.draws }))
 
 pub returns-in-Ok-Ok-Some-clause-causes : goal.returns-in-Ok-Ok-Some-clause-causes
 returns-in-Ok-Ok-Some-clause-causes g c =

@@ -15,12 +15,12 @@ returns-in-Err-clause-causes g c =
     (on_tpm (F c.args.files.now) 0 0 (T c.args.tpm.now) (T c.ready.new.tpm) c.ready.result c.ready.ensures.causes) c.in-Err.is
 
 pub returns-in-Ok-None-clause-told : goal.returns-in-Ok-None-clause-told
-returns-in-Ok-None-clause-told g c = λ words m bytes tells there.
+returns-in-Ok-None-clause-told g c = λ words m tells.
     begun_by m.device c.args.state.now m (removed_line c.args.path.now c.args.policy.now)
     (λ (o : Outcome). IfOk c.remove_all.result (λ (r : Reply). Gives (g.F.Files.held c.remove_all.new.files) (g.T.Tpm.stored c.remove_all.new.tpm) words r o))
     (sym c.in-Ok-None.field-0-is ∙ c.in-Ok-None.ensures.told m.device tells.state)
-    (λ s e. c.remove_all.ensures.told words (record { files = m.files; state = s; draws = m.draws }) bytes
-    (tells_begun _ _ _ _ m s c.ready.ensures.same e tells) (c.in-Ok-None.ensures.live s (tells.state ∙ ap Some e)).live_is there)
+    (λ s e. c.remove_all.ensures.told words (record { files = m.files; state = s; draws = m.draws })
+    (tells_begun _ _ _ _ m s c.ready.ensures.same e tells) (c.in-Ok-None.ensures.live s (tells.state ∙ ap Some e)).live_is)
 
 pub returns-in-Ok-None-clause-stops : goal.returns-in-Ok-None-clause-stops
 returns-in-Ok-None-clause-stops g c = λ words m tells.
@@ -31,6 +31,6 @@ returns-in-Ok-None-clause-stops g c = λ words m tells.
     (tells_begun _ _ _ _ m s c.ready.ensures.same e tells) (c.in-Ok-None.ensures.live s (tells.state ∙ ap Some e)).live_is)
 
 pub returns-in-Ok-Some-clause-told : goal.returns-in-Ok-Some-clause-told
-returns-in-Ok-Some-clause-told g c = λ words m bytes tells there.
+returns-in-Ok-Some-clause-told g c = λ words m tells.
     gives_refused _ _ _ c.args.state.now m (removed_line c.args.path.now c.args.policy.now) c.in-Ok-Some.answer
     (sym c.in-Ok-Some.field-0-is ∙ c.in-Ok-Some.ensures.told m.device tells.state) (kept_tells _ _ _ _ m c.ready.ensures.same tells)
