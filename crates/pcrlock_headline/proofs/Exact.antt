@@ -24,6 +24,7 @@ use Rattle.tpm_model.specs.declared.object.Object.{Object}
 use Rattle.tpm_model.specs.declared.parts.Parts.{Parts}
 use Rattle.tpm_model.specs.Binding.{Index}
 use Rattle.tpm_model.specs.Opening.{Open, UnlocksIndex}
+use Rattle.tpm_model.specs.Orderly.{Orderly}
 use Rattle.tpm_model.specs.Pcrs.{HasValues}
 use Rattle.tpm_model.specs.Sessions.{object_at}
 use Rattle.tpm_model.specs.Tied.{IsHeld, Tied}
@@ -178,6 +179,10 @@ open_in_state : (table : PlainTable) (s : Parts) (w : World) → Tied s w → Op
 open_in_state table s w tied open_now =
     subst (λ pcrs. Open table s.banks pcrs) tied.pcrs (subst (λ banks. Open table banks w.pcrs) tied.banks open_now)
 
+-- each PCR of a present bank has a value in the world
+pub values_in_world : (s : Parts) (w : World) → Orderly s → Tied s w → HasValues w.banks w.pcrs
+values_in_world s w orderly tied = subst (λ banks. HasValues banks w.pcrs) (sym tied.banks) (subst (λ pcrs. HasValues s.banks pcrs) (sym tied.pcrs) orderly.values)
+
 -- the newest table of the index is the one that is live
 pub only_live : (w : World) (index : ℕ) (pin : List ℕ) (live : LiveIndex) → get w.live index ≡ Some live → UnlocksIndex w index pin → Open live.table w.banks w.pcrs
 only_live w index pin live found u = subst (λ (x : LiveIndex). Open x.table w.banks w.pcrs) (one u.live live (sym u.found ∙ found)) u.opens
@@ -215,7 +220,7 @@ module _ (policy_path : List ℕ) (m : Live) (w : World) (state token : List ℕ
   pub by_values : OpensByValues (unseal_line state token policy_path (machine m)).ending key index w
   by_values =
       let newest = (newest_held m.state w index e.live k.orderly k.own e.found).table in
-      let values : HasValues w.banks w.pcrs = values_in_world in
+      let values = values_in_world m.state w k.orderly k.own.base in
       record {
         live = e.live;
         found = e.found;
@@ -229,6 +234,3 @@ module _ (policy_path : List ℕ) (m : Live) (w : World) (state token : List ℕ
               (subst (λ table. Open table w.banks w.pcrs) (sym newest.same) (opens_joined newest.table w.banks w.pcrs values by))),
         );
       }
-    where
-      values_in_world : HasValues w.banks w.pcrs
-      values_in_world = subst (λ banks. HasValues banks w.pcrs) (sym k.own.base.banks) (subst (λ pcrs. HasValues m.state.banks pcrs) (sym k.own.base.pcrs) k.orderly.values)

@@ -20,7 +20,7 @@ ghost use Rattle.pcrlock_deeds.specs.Doings.{world};
 ghost use Rattle.pcrlock_deeds.specs.Filed.{Current};
 ghost use Rattle.pcrlock_deeds.specs.Kept.{IsOwnKept};
 ghost use Rattle.pcrlock_open.specs.Unseal.{unseal_line};
-ghost use Rattle.pcrlock_headline.specs.Calm.{IsCalm, IsCalmAct};
+ghost use Rattle.pcrlock_headline.specs.Calm.{IsCalm, IsCalmAct, LeavesNewest};
 ghost use Rattle.pcrlock_headline.specs.Enrolled.{IsBoundToken, IsEnrolledTo};
 ghost use Rattle.pcrlock_headline.specs.Exact.{OpensByPolicy, OpensByValues};
 ghost use Rattle.pcrlock_headline.specs.Only.{HasBytes, IsUnlockedKey, NamesObject};
@@ -67,8 +67,11 @@ pub fn unseal_is_only_where_unlocked()
         → (unseal_line state token policy (machine m)).ending ≡ Fine text → IsUnlockedKey text bound w }
 {}
 
-/// What is current stays so, where an act writes no table into an index, and files none.
+/// What is current stays so, where an act writes no table into an index, and files none: then no policy is filed and no
+/// index is live afterwards that wasn't so before, with the same pin and newest table.
 pub fn calm_deeds_keep_current()
     ensures deed { (d : Deed) (m : Live) (w : World) → IsCalm d → Current w → Current (world d m w) }
     ensures act { (act : Act) (m : Machine) (w : World) → IsCalmAct act → Current w → Current (act_world act m w) }
+    ensures leaves { (d : Deed) (m : Live) (w : World) → IsCalm d → LeavesNewest w (world d m w) }
+    ensures act_leaves { (act : Act) (m : Machine) (w : World) → IsCalmAct act → LeavesNewest w (act_world act m w) }
 {}

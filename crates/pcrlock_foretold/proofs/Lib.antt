@@ -1,0 +1,10 @@
+pub mod Present
+pub mod Made
+pub mod Opens
+pub mod OneTable
+pub mod Settled
+pub mod Booted
+pub mod CalmLines
+pub mod Scripts
+pub mod Examples
+pub mod Stale

@@ -1,0 +1,4 @@
+pub mod Foretold
+pub mod Settled
+pub mod Scripts
+pub mod Examples
