@@ -15,10 +15,10 @@ use Rattle.pcrlock_words.specs.declared.request.Request.TheVariants as requests
 use Rattle.pcrlock_words.specs.ProperRequest.{IsIndex, IsProperRequest}
 use Rattle.pcrlock_line.specs.Machine.{Live, Machine}
 use Rattle.pcrlock_line.specs.Stopped.{StandsAt, StandsAmong}
-use Rattle.pcrlock_deeds.specs.Acts.{HoldsAt, HoldsOn, IsAct, IsSoundAct, act_world}
+use Rattle.pcrlock_deeds.specs.Acts.{HoldsAt, HoldsOn, IsAct, IsSoundAct, act_stages, act_world}
 use Rattle.pcrlock_deeds.specs.Kept.{IsOwnKept, LeavesFiled}
-use Rattle.pcrlock_deeds.specs.Sound.{IsTie}
-use Rattle.pcrlock_deeds.proofs.Acting.{act_grows, line_first, line_hashed, line_kept, line_last}
+use Rattle.pcrlock_deeds.specs.Sound.{IsTie, StandsTied}
+use Rattle.pcrlock_deeds.proofs.Acting.{act_grows, line_first, line_hashed, line_kept, line_last, line_stopped}
 use Rattle.pcrlock_deeds.proofs.Done.{done_itself}
 use Rattle.pcrlock_tpm.proofs.Acts.{extend_is, extend_sound, boot_is, boot_sound}
 use Rattle.pcrlock_exec.proofs.Acts.{exec_is, exec_sound}
@@ -167,3 +167,12 @@ pub command_kept : (path : List ℕ) (T : Live → World → Type 0) → IsTie T
 command_kept path T laws owns setting request m w index proper under clean safe holds =
     line_kept T (LeavesFiled path) laws (command_line setting request m) (act_of setting request m w) setting.state m w (lawful setting request proper m w)
     (sound path setting request m w proper under (record { index = index; kept = own_kept path T owns m w holds; safe = safe })) clean safe holds
+
+-- after a stop one of the stages of its act stands, and it is kept
+pub command_stopped : (path : List ℕ) (T : Live → World → Type 0) → IsTie T (LeavesFiled path) → OwnsKept path T → (held : Option FileMap) (stored : Option Stored)
+    → (setting : Setting) (request : Request) (m : Machine) (w : World)
+    → IsIndex setting.index → IsProperRequest request → IsUnderPath path request → Clean (command_world setting request m w) → Safe (command_world setting request m w).hashed
+    → HoldsAt T m w → StandsAmong held stored (command_line setting request m).stops → StandsTied T held stored (act_stages (act_of setting request m w) m w)
+command_stopped path T laws owns held stored setting request m w index proper under clean safe holds stands =
+    line_stopped T (LeavesFiled path) laws held stored (command_line setting request m) (act_of setting request m w) setting.state m w (lawful setting request proper m w)
+    (sound path setting request m w proper under (record { index = index; kept = own_kept path T owns m w holds; safe = safe })) clean safe holds stands

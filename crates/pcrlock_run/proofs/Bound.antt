@@ -1,8 +1,5 @@
 -- A single `unseal` of an object that is bound to an index prints the key exactly where the newest table is open.
 use Rattle.std.proofs.Common.{◌≡◌, ℕ, List, ◌++◌, sym, subst}
-use Rattle.std.specs.List.{Contains}
-use Rattle.std.proofs.lemmas.List.Elements.{Contains-append_left}
-use Rattle.hash_bank.specs.HashedString.{HashedString}
 use Rattle.tpm_model.specs.World.{World, hashed_world}
 use Rattle.pcrlock_line.specs.Machine.{Machine, Live, machine}
 use Rattle.pcrlock_line.specs.Outcome.{Fine}
@@ -17,13 +14,7 @@ use Rattle.pcrlock_headline.proofs.Exact.{by_values, exact, prints_key}
 use Rattle.pcrlock_run.specs.Headline.{TokenOpensBound, TokenPaths}
 use Rattle.pcrlock_run.specs.Leaves.{Safe}
 use Rattle.pcrlock_run.specs.Script.{unseal_outcome}
-
--- the strings of the world don't clash, where they don't with those of the command
-safe_left : (xs ys : List HashedString) → Safe (xs ++ ys) → Safe xs
-safe_left xs ys safe = record {
-  distinct = λ s t h k. safe.distinct s t (Contains-append_left xs ys s h) (Contains-append_left xs ys t k);
-  nonzero = λ s h. safe.nonzero s (Contains-append_left xs ys s h);
-}
+use Rattle.pcrlock_run.proofs.Folds.{safe_left}
 
 -- what is kept where the policy file of the `unseal` stands
 kept_there : (path policy : List ℕ) (m : Machine) (w : World) (live : Live) → policy ≡ path → HoldsAt (IsOwnKept path) m w → m ≡ machine live → IsOwnKept policy live w

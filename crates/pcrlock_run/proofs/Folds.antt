@@ -45,6 +45,11 @@ number_goes statuses.BadFile = (λ e. omega (arith, e), λ e. omega (arith, e))
 number_goes statuses.Limit = (λ e. omega (arith, e), λ e. omega (arith, e))
 number_goes statuses.Other = (λ e. omega (arith, e), λ e. omega (arith, e))
 
+-- so no status stops
+pub never_stops : (status : Status) → (number_of status ≡ 5) ⊎ (number_of status ≡ 6) → ⊥
+never_stops status (inl five) = (number_goes status).0 five
+never_stops status (inr six) = (number_goes status).1 six
+
 number_stops : (stop : Stop) → ¬ Goes (stop_number stop)
 number_stops stops.ReadFault goes = goes.0 refl
 number_stops stops.WriteFault goes = goes.0 refl

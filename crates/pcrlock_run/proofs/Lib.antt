@@ -8,9 +8,11 @@ pub mod Texts
 pub mod Acts
 pub mod NamesPolicy
 pub mod Kept
+pub mod Stopped
 pub mod Bound
 pub mod Exact
 pub mod Firsts
 pub mod Premise
 pub mod Printed
 pub mod Opened
+pub mod Foretold

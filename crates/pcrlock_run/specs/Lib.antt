@@ -8,7 +8,9 @@ pub mod Whole
 pub mod Leaves
 pub mod Acts
 pub mod Worlds
+pub mod Stages
 pub mod Under
 pub mod EachRequest
 pub mod Headline
 pub mod Unseals
+pub mod Foretelling

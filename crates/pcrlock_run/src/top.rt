@@ -22,10 +22,13 @@ ghost use Rattle.pcrlock_run.specs.Script.{command_line};
 ghost use Rattle.pcrlock_run.specs.Whole.{alone, run_script as script_run, run_request as request_run, run_spelled as spelled_run, run_line};
 ghost use Rattle.pcrlock_run.specs.Says.{Says};
 ghost use Rattle.pcrlock_run.specs.Leaves.{Safe, Leaves, IsNoScript};
+ghost use Rattle.pcrlock_deeds.specs.Resumed.{StandsKept};
+ghost use Rattle.pcrlock_run.specs.Stages.{run_stages};
 ghost use Rattle.pcrlock_run.specs.Worlds.{run_world};
 ghost use Rattle.pcrlock_run.specs.Unseals.{UnsealsOpen};
 ghost use Rattle.pcrlock_run.specs.Under.{IsKeptAt, IsOwnKeptAt, IsUnder};
 ghost use Rattle.pcrlock_run.specs.EachRequest.{RunHas};
+ghost use Rattle.pcrlock_run.specs.Foretelling.{CallIsForetold, MakesTheForetold, UnsealIsForetold};
 ghost use Rattle.pcrlock_run.specs.Headline.{CallIsExact, CallOpensBound, UnsealIsExact, token_spelled};
 ghost use Rattle.pcrlock_run.specs.Setting.{outside, setting_of};
 
@@ -245,6 +248,11 @@ pub fn run<F: Files, T: Tpm, E: Entropy, O: Sink, R: Sink>(
     // After a fault or want of memory files and stored state are those after some of the changes.
     ensures stops { (m : Machine) → Tells (F.held files.old) (T.stored tpm.old) (E.draws entropy.old) m → Safe (run_line words.now m).hashed → (result ≡ 5) ⊎ (result ≡ 6)
         → StandsAmong (F.held files.new) (T.stored tpm.new) (run_line words.now m).stops }
+    // All that is kept is kept by what they are then, in the world of one of the run's stages: with it the clauses
+    // here hold of the next run, whatever sessions a walk left open as it was stopped.
+    ensures stopped { (m : Machine) (w : World) (path : Sequence ℕ) → Tells (F.held files.old) (T.stored tpm.old) (E.draws entropy.old) m → IsUnder words.now path → IsOwnKeptAt path m w
+        → Clean (run_world words.now m w) → Safe (run_world words.now m w).hashed → (result ≡ 5) ⊎ (result ≡ 6)
+        → StandsKept path (F.held files.new) (T.stored tpm.new) (run_stages words.now m w) }
     // After a fault of the output alone a command other than a script has done all its changes.
     ensures done { (m : Machine) → Tells (F.held files.old) (T.stored tpm.old) (E.draws entropy.old) m → Safe (run_line words.now m).hashed → IsNoScript (request_of words.now None) → result ≡ 5
         → ¬ Rose (F.faults files.old) (F.faults files.new) → ¬ Rose (E.faults entropy.old) (E.faults entropy.new) → ¬ Rose (T.faults tpm.old) (T.faults tpm.new)
@@ -279,6 +287,19 @@ pub fn run<F: Files, T: Tpm, E: Entropy, O: Sink, R: Sink>(
     ensures unlocks { (m : Machine) (w : World) (path : Sequence ℕ) → Tells (F.held files.old) (T.stored tpm.old) (E.draws entropy.old) m → IsUnder words.now path → IsOwnKeptAt path m w
         → Safe (run_world words.now m w).hashed → result ≢ 5 → result ≢ 6
         → CallOpensBound (token_spelled (request_of words.now None)) m w result (O.written out.old) (O.written out.new) }
+    // Each `make-policy` that comes to a good end has put in force the table of the forecast of what it read: of the
+    // components, the window, the logs and the PCR values. A PCR that was asked for is protected exactly where its replay
+    // is the value that it holds, each record is recognised and no component is missing.
+    ensures makes { (m : Machine) (w : World) (path : Sequence ℕ) → IsUnder words.now path → IsOwnKeptAt path m w → Clean (run_world words.now m w) → Safe (run_world words.now m w).hashed
+        → RunHas MakesTheForetold words.now m w }
+    // And each `unseal` by a policy opens exactly where each protected PCR holds a value that some choice of variants, at
+    // some cut of the window, measures; for PCRs that are taken together, where one choice at one cut measures them all.
+    ensures foretold { (m : Machine) (w : World) (path : Sequence ℕ) → IsUnder words.now path → IsOwnKeptAt path m w → Clean (run_world words.now m w) → Safe (run_world words.now m w).hashed
+        → RunHas UnsealIsForetold words.now m w }
+    // So a call of `unseal` gives 0 and prints the key exactly there.
+    ensures comes { (m : Machine) (w : World) (path : Sequence ℕ) → Tells (F.held files.old) (T.stored tpm.old) (E.draws entropy.old) m → IsUnder words.now path → IsOwnKeptAt path m w
+        → Safe (run_world words.now m w).hashed → result ≢ 5 → result ≢ 6
+        → CallIsForetold (token_spelled (request_of words.now None)) m w result (O.written out.old) (O.written out.new) }
     ensures bounded { result ≤ 7 }
 {
     match run_words(alloc, words, files, tpm, entropy, out, err) {

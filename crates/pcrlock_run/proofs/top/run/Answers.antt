@@ -1,9 +1,12 @@
-use Rattle.std.proofs.Common.{◌∙◌}
+use Rattle.std.proofs.Common.{◌≡◌, ◌⊎◌, ℕ, subst, ◌∙◌}
 use Rattle.pcrlock_run.proofs.Widened.{fault_cause}
 use Rattle.pcrlock_deeds.specs.Kept.{IsOwnKept, IsKept}
 use Rattle.pcrlock_deeds.proofs.Tying.{own_tie, kept_tie, fresh_kept}
 use Rattle.pcrlock_run.proofs.Kept.{run_kept}
+use Rattle.pcrlock_run.proofs.Stopped.{run_resumes}
+use Rattle.pcrlock_run.proofs.Folds.{never_stops}
 use Rattle.pcrlock_run.proofs.Exact.{run_exact}
+use Rattle.pcrlock_run.proofs.Foretold.{run_call_foretold, run_foretold, run_makes}
 use Rattle.pcrlock_run.proofs.Opened.{run_opens}
 use Rattle.pcrlock_run.proofs.Premise.{run_hashed, run_safe}
 use Rattle.pcrlock_run.proofs.Printed.{run_bound, run_call}
@@ -62,3 +65,28 @@ returns-in-Ok-clause-unseals g c = λ m w path under kept clean safe. run_opens 
 
 pub returns-in-Err-clause-unseals : goal.returns-in-Err-clause-unseals
 returns-in-Err-clause-unseals g c = λ m w path under kept clean safe. run_opens path c.args.words.now m w under clean safe kept
+
+pub returns-in-Ok-clause-stopped : goal.returns-in-Ok-clause-stopped
+returns-in-Ok-clause-stopped g c = λ m w path t under kept clean safe stops.
+    absurd (never_stops c.in-Ok.status (subst (λ (n : ℕ). (n ≡ 5) ⊎ (n ≡ 6)) c.number.ensures stops))
+
+pub returns-in-Err-clause-stopped : goal.returns-in-Err-clause-stopped
+returns-in-Err-clause-stopped g c = λ m w path t under kept clean safe stops.
+    run_resumes path _ _ c.args.words.now m w under clean safe kept (c.in-Err.ensures.stops m t (run_safe c.args.words.now m w safe))
+
+pub returns-in-Ok-clause-makes : goal.returns-in-Ok-clause-makes
+returns-in-Ok-clause-makes g c = λ m w path under kept clean safe. run_makes path c.args.words.now m w under clean safe kept
+
+pub returns-in-Ok-clause-foretold : goal.returns-in-Ok-clause-foretold
+returns-in-Ok-clause-foretold g c = λ m w path under kept clean safe. run_foretold path c.args.words.now m w under clean safe kept
+
+pub returns-in-Err-clause-makes : goal.returns-in-Err-clause-makes
+returns-in-Err-clause-makes g c = λ m w path under kept clean safe. run_makes path c.args.words.now m w under clean safe kept
+
+pub returns-in-Err-clause-foretold : goal.returns-in-Err-clause-foretold
+returns-in-Err-clause-foretold g c = λ m w path under kept clean safe. run_foretold path c.args.words.now m w under clean safe kept
+
+pub returns-in-Ok-clause-comes : goal.returns-in-Ok-clause-comes
+returns-in-Ok-clause-comes g c = λ m w path t under kept safe no_fault no_want.
+    let l = c.in-Ok.ensures.told m t (run_safe c.args.words.now m w safe) in
+    run_call_foretold path c.args.words.now m w _ _ _ under kept safe (c.number.ensures ∙ l.status) l.out
