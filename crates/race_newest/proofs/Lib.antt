@@ -8,3 +8,4 @@ pub mod Everyone
 pub mod RaceEvents
 pub mod Rightly
 pub mod Strict
+pub mod OnDevices

@@ -4,5 +4,7 @@
 #![tactic(auto)]
 
 mod laws;
+mod playing;
 
 pub use crate::laws::{each_unseal_names_its_event, keys_come_rightly, names_are_strict};
+pub use crate::playing::play_rightly;
