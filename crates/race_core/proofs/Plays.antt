@@ -41,7 +41,7 @@ wanting keeps event command p ready live stored e want is now kept =
 
 -- ---- one after the other
 
-played_push : (events : List Event) (event : Event) (p : Playing) → played (events ++ event ∷ []) p ≡ played_one event (played events p)
+pub played_push : (events : List Event) (event : Event) (p : Playing) → played (events ++ event ∷ []) p ≡ played_one event (played events p)
 played_push [] event p = refl
 played_push (first ∷ events) event p = played_push events event (played_one first p)
 

@@ -6,12 +6,14 @@
 mod client;
 mod content;
 mod event;
+mod keys;
 mod line;
 mod outcome;
 mod playing;
 mod race;
 
 pub use crate::event::Event;
+pub use crate::keys::a_key_has_its_steps;
 pub use crate::line::outcome_line;
 pub use crate::outcome::Outcome;
 pub use crate::playing::{PlayError, play};

@@ -1,0 +1,11 @@
+pub mod Named
+pub mod Leaves
+pub mod Since
+pub mod Moments
+pub mod Newest
+pub mod Opened
+pub mod Everyone
+pub mod RaceEvents
+pub mod Rightly
+pub mod Strict
+pub mod OnDevices

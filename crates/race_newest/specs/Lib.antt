@@ -1,0 +1,5 @@
+pub mod Moments
+pub mod ByNewest
+pub mod RaceEvents
+pub mod Stillness
+pub mod Rightly
