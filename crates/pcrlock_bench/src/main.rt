@@ -6,6 +6,8 @@
 
 mod firmware;
 mod matching;
+mod policies;
+mod proofs;
 mod records;
 mod scripts;
 mod trees;
@@ -37,6 +39,14 @@ fn main(rt: HostRuntime) -> anyhow::Result<()> {
             let count = scripts::run(alloc, name, scripts::SMALL)?;
             println!(rt; "{name} {count}")?;
         }
+        for name in policies::NAMES {
+            let count = policies::run(alloc, name, policies::SMALL, 1)?;
+            println!(rt; "{name} {count}")?;
+        }
+        for name in proofs::NAMES {
+            let count = proofs::run(alloc, name, proofs::SMALL, 1)?;
+            println!(rt; "{name} {count}")?;
+        }
         return Ok(());
     };
     let rounds = words.next().and_then(|word| word.parse::<u32>().ok());
@@ -49,6 +59,13 @@ fn main(rt: HostRuntime) -> anyhow::Result<()> {
         matching::run(alloc, name.as_str(), matching::LARGE, rounds)?
     } else if name.as_str().starts_with("script") {
         scripts::run(alloc, name.as_str(), rounds)?
+    } else if name.as_str().starts_with("policy") {
+        policies::run(alloc, name.as_str(), policies::LARGE, rounds)?
+    } else if name.as_str().starts_with("joint")
+        || name.as_str().starts_with("prove")
+        || name.as_str().starts_with("check")
+    {
+        proofs::run(alloc, name.as_str(), proofs::LARGE, rounds)?
     } else {
         records::run(alloc, name.as_str(), records::LARGE, rounds)?
     };

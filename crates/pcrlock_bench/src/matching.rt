@@ -120,7 +120,7 @@ fn file_text(alloc: Global, pcr: u8) -> anyhow::Result<Vec<u8>> {
 
 /// A tree of so many components, each of two variants that measure the same into the PCR, or of which
 /// one measures it into another PCR. So k components give k + 1 values where the variants differ.
-fn tree(alloc: Global, count: u32, are_equal: bool) -> anyhow::Result<Tree> {
+pub(crate) fn tree(alloc: Global, count: u32, are_equal: bool) -> anyhow::Result<Tree> {
     let first = file_text(alloc, PCR)?;
     let second = file_text(alloc, if are_equal { PCR } else { OTHER })?;
     let mut files = MemFiles::new(alloc, List::new(alloc));
