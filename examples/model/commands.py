@@ -1,5 +1,6 @@
 """What each command prints and leaves, over a map of files and a TPM; words and files are taken to be good ones."""
 
+import brokers
 import kept
 import measured
 import proofs
@@ -160,6 +161,14 @@ class Machine:
     def tpm_exec(self, told):
         lines = self.file(told["--commands"]).decode().split("\n")
         return "".join(f"{chip.answer(self.tpm, line)}\n" for line in lines if line and not line.startswith("#"))
+
+    def broker(self, told):
+        lines = self.file(told["--commands"]).decode().split("\n")
+        asked = [line.split(" ", 1) for line in lines if line and not line.startswith("#")]
+        served = brokers.Broker(self.tpm, int(told["--clients"]))
+        text = "".join(f"{client} {served.answer(int(client), line)}\n" for client, line in asked)
+        served.leave()
+        return text
 
     # ---- component files
 
@@ -424,6 +433,7 @@ COMMANDS = {
     "tpm-boot": Machine.tpm_boot,
     "tpm-extend": Machine.tpm_extend,
     "tpm-exec": Machine.tpm_exec,
+    "broker": Machine.broker,
     "lock-firmware-code": lambda machine, told: machine.lock(told, "code", {0, 2}),
     "lock-firmware-config": lambda machine, told: machine.lock(told, "config", {1, 3}),
     "unlock-firmware-code": lambda machine, told: machine.unlock(told, "code"),

@@ -14,7 +14,7 @@ _pcrlock() {
     return
   fi
   if ((COMP_CWORD == 2)); then
-    _pcrlock_words 'make-policy remove-policy enroll unseal predict log cel list-components prove check-proof lock-firmware-code lock-firmware-config unlock-firmware-code unlock-firmware-config lock-raw tpm-boot tpm-extend tpm-exec script'
+    _pcrlock_words 'make-policy remove-policy enroll unseal predict log cel list-components prove check-proof lock-firmware-code lock-firmware-config unlock-firmware-code unlock-firmware-config lock-raw tpm-boot tpm-extend tpm-exec broker script'
     return
   fi
   case $before in
@@ -31,6 +31,7 @@ _pcrlock() {
     --variant) return ;;
     --banks) _pcrlock_words 'sha1 sha256 sha384 sha512'; return ;;
     --text) return ;;
+    --clients) return ;;
   esac
   case ${COMP_WORDS[2]} in
     make-policy) options='--firmware-log --userspace-log --components --location --pcr --bank --joint --policy --index --pin --force' ;;
@@ -51,6 +52,7 @@ _pcrlock() {
     tpm-boot) options='--firmware-log --userspace-log --locality --banks' ;;
     tpm-extend) options='--pcr --text --hex' ;;
     tpm-exec) options='--commands' ;;
+    broker) options='--commands --clients' ;;
     script) options='--file --policy --index' ;;
   esac
   for option in $options; do

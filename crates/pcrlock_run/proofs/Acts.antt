@@ -22,6 +22,7 @@ use Rattle.pcrlock_deeds.proofs.Acting.{act_grows, line_first, line_hashed, line
 use Rattle.pcrlock_deeds.proofs.Done.{done_itself}
 use Rattle.pcrlock_tpm.proofs.Acts.{extend_is, extend_sound, boot_is, boot_sound}
 use Rattle.pcrlock_exec.proofs.Acts.{exec_is, exec_sound}
+use Rattle.pcrlock_broker.proofs.Acts.{broker_is, broker_sound}
 use Rattle.pcrlock_seal.proofs.Acts.{enroll_bound_is, enroll_bound_sound, enroll_is, enroll_sound}
 use Rattle.pcrlock_open.proofs.Acts.{unseal_is, unseal_sound}
 use Rattle.component_make.specs.declared.kind.FirmwareKind.TheVariants.{Code, Config}
@@ -59,6 +60,7 @@ lawful setting (requests.Enroll token policy key literal bank) proper = enrolls_
 lawful setting (requests.Unseal token policy) proper = unseals_as setting.state token policy
 lawful setting (requests.TpmBoot firmware user locality banks) proper = boot_is setting.state firmware user locality banks
 lawful setting (requests.TpmExec commands) proper = exec_is setting.state commands
+lawful setting (requests.Broker commands clients) proper = broker_is setting.state commands clients
 lawful setting (requests.LockFirmwareCode log folder variant) proper = lock_firmware_is setting.state Code log folder variant
 lawful setting (requests.LockFirmwareConfig log folder variant) proper = lock_firmware_is setting.state Config log folder variant
 lawful setting (requests.UnlockFirmwareCode folder variant) proper = unlock_firmware_is setting.state Code folder variant
@@ -111,6 +113,7 @@ module _ (path : List ℕ) where
   sound setting (requests.Unseal token policy) m w proper under known = unseal_sound (LeavesFiled path) token policy m w
   sound setting (requests.TpmBoot firmware user locality banks) m w proper under known = boot_sound (LeavesFiled path) firmware user locality banks m w
   sound setting (requests.TpmExec commands) m w proper under known = exec_sound (LeavesFiled path) commands m w
+  sound setting (requests.Broker commands clients) m w proper under known = broker_sound (LeavesFiled path) commands clients m w
   sound setting (requests.LockFirmwareCode log folder variant) m w proper under known = lock_firmware_sound (LeavesFiled path) Code log folder variant m w (λ live v. under.spares.0) (λ live v. under.spares.1)
   sound setting (requests.LockFirmwareConfig log folder variant) m w proper under known = lock_firmware_sound (LeavesFiled path) Config log folder variant m w (λ live v. under.spares.0) (λ live v. under.spares.1)
   sound setting (requests.UnlockFirmwareCode folder variant) m w proper under known = unlock_firmware_sound (LeavesFiled path) Code folder variant m w (λ live v. under.spares.0) (λ live v. under.spares.1)

@@ -14,6 +14,7 @@ use Rattle.predictor.specs.declared.window.Window.{Window}
 use Rattle.pcrlock_predict.specs.Log.{log_line}
 use Rattle.pcrlock_predict.specs.Predict.{predict_line}
 use Rattle.pcrlock_exec.specs.Exec.{tpm_exec_line}
+use Rattle.pcrlock_broker.specs.Broker.{broker_line}
 use Rattle.pcrlock_tpm.specs.Extend.{tpm_extend_line}
 use Rattle.hash_bank.specs.declared.bank.Bank.{Bank}
 use Rattle.pcrlock_line.specs.Outcome.{Outcome}
@@ -117,6 +118,11 @@ predicts setting request firmware user f u folders given location pcrs bank join
 pub executes : (setting : Setting) (request : Request) (commands : List ℕ) (m : Machine) → request ≡ requests.TpmExec commands → command_line setting request m ≡ tpm_exec_line setting.state commands m
 unfolding command_line
 executes setting request commands m is = ap (λ (r : Request). command_line setting r m) is
+
+pub serves : (setting : Setting) (request : Request) (commands : List ℕ) (clients : ℕ) (m : Machine) → request ≡ requests.Broker commands clients
+    → command_line setting request m ≡ broker_line setting.state commands clients m
+unfolding command_line
+serves setting request commands clients m is = ap (λ (r : Request). command_line setting r m) is
 
 -- what holds of an outcome holds of one that equals it
 pub by_outcome : (a b : Outcome) (L : Outcome → Type 0) → a ≡ b → L b → L a

@@ -8,6 +8,7 @@ use Rattle.pcrlock_line.specs.Machine.{Machine}
 use Rattle.pcrlock_deeds.specs.Acts.{Act, says}
 use Rattle.pcrlock_tpm.specs.Acts.{extend_act, boot_act}
 use Rattle.pcrlock_exec.specs.Acts.{exec_act}
+use Rattle.pcrlock_broker.specs.Acts.{broker_act}
 use Rattle.pcrlock_seal.specs.Acts.{enroll_act, enroll_bound_act}
 use Rattle.pcrlock_open.specs.Acts.{unseal_act}
 use Rattle.component_make.specs.declared.kind.FirmwareKind.TheVariants.{Code, Config}
@@ -30,6 +31,7 @@ act_of setting (requests.Enroll token policy key literal bank) m w = enrolling t
 act_of setting (requests.Unseal token policy) m w = unseal_act token policy m w
 act_of setting (requests.TpmBoot firmware user locality banks) m w = boot_act firmware user locality banks m w
 act_of setting (requests.TpmExec commands) m w = exec_act commands m w
+act_of setting (requests.Broker commands clients) m w = broker_act commands clients m w
 act_of setting (requests.LockFirmwareCode log folder variant) m w = lock_firmware_act Code log folder variant m w
 act_of setting (requests.LockFirmwareConfig log folder variant) m w = lock_firmware_act Config log folder variant m w
 act_of setting (requests.UnlockFirmwareCode folder variant) m w = unlock_firmware_act Code folder variant m w

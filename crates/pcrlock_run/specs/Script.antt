@@ -15,6 +15,7 @@ use Rattle.pcrlock_read.specs.ComponentLines.{list_components_line}
 use Rattle.pcrlock_predict.specs.Log.{log_line}
 use Rattle.pcrlock_predict.specs.Predict.{predict_line}
 use Rattle.pcrlock_exec.specs.Exec.{tpm_exec_line}
+use Rattle.pcrlock_broker.specs.Broker.{broker_line}
 use Rattle.pcrlock_tpm.specs.Boot.{tpm_boot_line}
 use Rattle.pcrlock_tpm.specs.Extend.{tpm_extend_line}
 use Rattle.pcrlock_seal.specs.Enroll.{enroll_bound_line, enroll_line}
@@ -51,6 +52,7 @@ command_line setting (requests.TpmBoot firmware user locality banks) m = tpm_boo
 command_line setting (requests.Log firmware user folders bank) m = log_line setting.state firmware user folders bank m
 command_line setting (requests.Predict firmware user folders location pcr bank joint) m = predict_line setting.state firmware user folders location pcr bank joint m
 command_line setting (requests.TpmExec commands) m = tpm_exec_line setting.state commands m
+command_line setting (requests.Broker commands clients) m = broker_line setting.state commands clients m
 command_line setting (requests.LockFirmwareCode log folder variant) m = lock_firmware_line Code log folder variant m
 command_line setting (requests.LockFirmwareConfig log folder variant) m = lock_firmware_line Config log folder variant m
 command_line setting (requests.UnlockFirmwareCode folder variant) m = unlock_firmware_line Code folder variant m

@@ -12,6 +12,7 @@ ghost use Rattle.pcrlock_run.specs.Setting.{setting_of};
 
 use crate::setting::Setting;
 use hash_bank::Bank;
+use pcrlock_broker::broker;
 use pcrlock_exec::tpm_exec;
 use pcrlock_line::{Reply, Stop};
 use pcrlock_lock::{FirmwareKind, lock_firmware, lock_raw, unlock_firmware};
@@ -268,11 +269,13 @@ pub fn command<F: Files, T: Tpm, E: Entropy>(
             )
         }
         Request::RemovePolicy { policy } => remove_policy(alloc, files, tpm, setting.state, policy),
+        Request::Broker { commands, clients } => {
+            broker(alloc, files, tpm, setting.state, commands, *clients)
+        }
         // No command of a script, and what can't be called yet.
-        Request::Script { .. }
-        | Request::Race { .. }
-        | Request::Gen { .. }
-        | Request::Broker { .. } => Ok(Reply::Refused(Answer::BadWords)),
+        Request::Script { .. } | Request::Race { .. } | Request::Gen { .. } => {
+            Ok(Reply::Refused(Answer::BadWords))
+        }
     }
 }
 

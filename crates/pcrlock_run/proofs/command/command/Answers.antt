@@ -8,7 +8,7 @@ use Rattle.pcrlock_run.specs.Setting.{setting_of}
 use Rattle.pcrlock_run.specs.Leaves.{Safe}
 use Rattle.pcrlock_line.proofs.Devices.{stands_unchanged}
 use Rattle.pcrlock_run.proofs.Widened.{beside_tpm, beside_entropy, beside_files}
-use Rattle.pcrlock_run.proofs.Commands.{some_bank, extends, enrolls, unseals, prints, lists, starts, logs, predicts, executes, locks_code, locks_config, unlocks_code, unlocks_config, locks_raw, proves, checks, makes_policy, removes_policy, by_outcome}
+use Rattle.pcrlock_run.proofs.Commands.{some_bank, extends, enrolls, unseals, prints, lists, starts, logs, predicts, executes, serves, locks_code, locks_config, unlocks_code, unlocks_config, locks_raw, proves, checks, makes_policy, removes_policy, by_outcome}
 use Rattle.pcrlock_run.proofs.command.command.Goals as goal
 
 pub tpm_extend-requires : goal.tpm_extend-requires
@@ -141,6 +141,22 @@ pub returns-in-TpmExec-clause-stops : goal.returns-in-TpmExec-clause-stops
 returns-in-TpmExec-clause-stops g c = λ m tells safe. by_outcome _ _
     (λ (o : Outcome). IfErr c.tpm_exec.result (λ _. StandsAmong (g.F.Files.held c.tpm_exec.new.files) (g.T.Tpm.stored c.tpm_exec.new.tpm) o.stops))
     (executes (setting_of c.args.setting.now) c.args.request.now _ m c.in-TpmExec.is) (c.tpm_exec.ensures.stops _ m tells)
+
+pub broker-requires : goal.broker-requires
+broker-requires g c = subst IsProperRequest c.in-Broker.is c.requires
+
+pub returns-in-Broker-clause-causes : goal.returns-in-Broker-clause-causes
+returns-in-Broker-clause-causes g c = beside_entropy _ _ _ _ _ c.broker.result c.broker.ensures.causes
+
+pub returns-in-Broker-clause-told : goal.returns-in-Broker-clause-told
+returns-in-Broker-clause-told g c = λ m tells safe. by_outcome _ _
+    (λ (o : Outcome). IfOk c.broker.result (λ (r : Reply). Gives (g.F.Files.held c.broker.new.files) (g.T.Tpm.stored c.broker.new.tpm) (g.E.Entropy.draws c.args.entropy.now) r o))
+    (serves (setting_of c.args.setting.now) c.args.request.now _ _ m c.in-Broker.is) (c.broker.ensures.told _ m tells)
+
+pub returns-in-Broker-clause-stops : goal.returns-in-Broker-clause-stops
+returns-in-Broker-clause-stops g c = λ m tells safe. by_outcome _ _
+    (λ (o : Outcome). IfErr c.broker.result (λ _. StandsAmong (g.F.Files.held c.broker.new.files) (g.T.Tpm.stored c.broker.new.tpm) o.stops))
+    (serves (setting_of c.args.setting.now) c.args.request.now _ _ m c.in-Broker.is) (c.broker.ensures.stops _ m tells)
 
 pub returns-in-LockFirmwareCode-clause-causes : goal.returns-in-LockFirmwareCode-clause-causes
 returns-in-LockFirmwareCode-clause-causes g c = beside_files _ _ _ _ _ c.lock_firmware.result c.lock_firmware.ensures.causes
