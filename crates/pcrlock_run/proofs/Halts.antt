@@ -268,7 +268,7 @@ pub one_halts : (held : Option FileMap) (stored : Option Stored) (a b : ℕ) (u 
     → Halted (LineHalts held stored a b (line setting words m)) u v f x g y → Halted (LinesHalt held stored a b setting (lines_among (text ∷ [])) m) u v f x g y
 one_halts held stored a b u v f x g y setting text words m same runs h =
     let k : Halted (LineHalts held stored a b (line setting (words_of text) m)) u v f x g y =
-        subst (λ (w : List (List ℕ)). Halted (LineHalts held stored a b (line setting w m)) u v f x g y) same h in
+    subst (λ (w : List (List ℕ)). Halted (LineHalts held stored a b (line setting w m)) u v f x g y) same h in
     subst (λ (lines : List (List ℕ)). Halted (LinesHalt held stored a b setting lines m) u v f x g y) (sym (among_one text (ap is_passed_over (sym same) ∙ runs)))
     (halted_as (LineHalts held stored a b (line setting (words_of text) m)) (LinesHalt held stored a b setting (text ∷ []) m) u v f x g y (λ printed spoken here. inl here) k)
 

@@ -38,5 +38,5 @@ returns-clause-halts g c = λ m tells safe.
     (one_line (setting_of c.args.setting.now) c.args.text.now c.as_slice-2.result.now (number_of c.args.status) m (c.as_slice-2.ensures ∙ c.in-Ok.ensures)
     (ap is_passed_over (c.as_slice-2.ensures ∙ sym c.as_slice.ensures) ∙ sym c.is_passed_over.ensures ∙ c.if-is_passed_over.false)) safe))
 
-pub returns-in-Err-clause-halts : goal.returns-in-Err-clause-halts
-returns-in-Err-clause-halts g c = λ m tells safe. unread_halts _ _ _ _ _ _ _ (setting_of c.args.setting.now) (lines_among (c.args.text.now ∷ [])) m tells
+pub returns-in_default-clause-halts : goal.returns-in_default-clause-halts
+returns-in_default-clause-halts g c = λ m tells safe. unread_halts _ _ _ _ _ _ _ (setting_of c.args.setting.now) (lines_among (c.args.text.now ∷ [])) m tells
