@@ -43,7 +43,7 @@ stops_of held kept m commands files part = among held kept m part.count commands
 
 -- ---- a stop before any command
 
-first_at : (held : Option FileMap) (kept : Option Stored) (m : Live) (commands : List Command) → StandsAt held kept (machine m) → StandsAmong held kept (executed_line commands m).stops
+pub first_at : (held : Option FileMap) (kept : Option Stored) (m : Live) (commands : List Command) → StandsAt held kept (machine m) → StandsAmong held kept (executed_line commands m).stops
 first_at held kept m [] at = inl at
 first_at held kept m (c ∷ commands) at = inl at
 

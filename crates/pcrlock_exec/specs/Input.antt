@@ -18,21 +18,21 @@ abbrev pub commands_limit : ℕ
 commands_limit = 4194304
 
 -- the commands, or the answer for a file that has none: the line that is bad, or that there are too many
-abbrev pub read_from : List ℕ → Result (List Command) CommandsError → Result (List Command) Answer
+abbrev pub read_from : {A : Type 0} → List ℕ → Result A CommandsError → Result A Answer
 read_from path (Ok commands) = Ok commands
 read_from path (Err (errors.BadLine line)) = Err (said.Malformed path (place.At line))
 read_from path (Err errors.TooMany) = Err (said.Limit (codes "lines") 65537)
 read_from path (Err errors.Memory) = Err said.Memory
 
--- by what stands at the path
-abbrev pub commands_in : List ℕ → Content → Result (List Command) Answer
-commands_in path content.Missing = Err (said.NoSuchFile path)
-commands_in path (content.TooLarge size) = Err (said.Limit (codes "commands-bytes") size)
-commands_in path (content.Bytes bytes) = read_from path (commands_of bytes)
+-- by what stands at the path, and by what bytes spell
+abbrev pub commands_in : {A : Type 0} → (List ℕ → Result A CommandsError) → List ℕ → Content → Result A Answer
+commands_in spell path content.Missing = Err (said.NoSuchFile path)
+commands_in spell path (content.TooLarge size) = Err (said.Limit (codes "commands-bytes") size)
+commands_in spell path (content.Bytes bytes) = read_from path (spell bytes)
 
 -- the commands of the file at the path, or why there are none
 unfoldable pub commands_at : FileMap → List ℕ → Result (List Command) Answer
-commands_at files path = commands_in path (content_of files path commands_limit)
+commands_at files path = commands_in commands_of path (content_of files path commands_limit)
 
 -- what was found, as a result
 abbrev pub input_found : Input → Result (List Command) Answer

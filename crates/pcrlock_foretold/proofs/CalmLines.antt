@@ -11,15 +11,15 @@ use Rattle.tpm_model.specs.declared.response.Response.{Response}
 use Rattle.tpm_model.specs.Binding.{index_policy}
 use Rattle.tpm_model.specs.Events.{Event}
 use Rattle.tpm_model.specs.World.{FiledPolicy, World}
-use Rattle.tpm_commands.specs.Responses.{response_text}
 use Rattle.pcrlock_answer.specs.declared.answer.Answer.{Answer}
 use Rattle.pcrlock_line.specs.Machine.{Machine}
-use Rattle.pcrlock_line.specs.Outcome.{Ending}
+use Rattle.pcrlock_line.specs.Outcome.{Ending, Fine}
 use Rattle.pcrlock_deeds.specs.PolicyAt.{policy_needed}
 use Rattle.pcrlock_input.specs.Logs.{PlainLogs, logs_of, rows_of}
 use Rattle.pcrlock_tpm.specs.Acts.{boot_act, booting, measuring}
 use Rattle.pcrlock_tpm.specs.Boot.{measured_row}
-use Rattle.pcrlock_exec.specs.Acts.{exec_act, exec_by, executing}
+use Rattle.pcrlock_exec.specs.Acts.{exec_act, exec_by, sending}
+use Rattle.pcrlock_exec.specs.Exec.{exec_text}
 use Rattle.pcrlock_exec.specs.Input.{commands_at}
 use Rattle.pcrlock_seal.specs.Acts.{author_by, author_where, enroll_bound_act, key_deed, policy_act, seal_deed, token_deed}
 use Rattle.pcrlock_seal.specs.Condition.{condition_policy, index_condition}
@@ -55,16 +55,16 @@ enroll_calm path policy key m w = by (policy_needed m.files policy)
         key_calm path condition (author_by w.filed (condition_policy condition)) key (λ k. author_calm w.filed (condition_policy condition) k)
     by (Err answer) = tt
 
-executing_calm : (commands : List Command) (text : List ℕ) → IsCalm (executing commands text)
-executing_calm [] text = tt
-executing_calm (command ∷ commands) text = (tt, λ response. executing_calm commands (text ++ response_text response))
+sending_calm : (commands : List Command) (last : Ending) → IsCalm (sending commands last)
+sending_calm [] last = tt
+sending_calm (command ∷ commands) last = (tt, λ response. sending_calm commands last)
 
 pub exec_calm : (commands : List ℕ) (m : Machine) (w : World) → IsCalmAct (exec_act commands m w)
 unfolding exec_act
 exec_calm commands m w = by (commands_at m.files commands)
   where
     by : (read : Result (List Command) Answer) → IsCalmAct (exec_by read)
-    by (Ok list) = executing_calm list []
+    by (Ok list) = λ live. sending_calm list (Fine (exec_text list live.state))
     by (Err why) = tt
 
 measuring_calm : (rows : List Row) (s : Parts) (last : Ending) → IsCalm (measuring rows s last)

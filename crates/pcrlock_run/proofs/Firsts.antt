@@ -27,7 +27,7 @@ stopped_so P result stop is p = subst (λ (r : Result _ Stop). IfErr r (λ _. P)
 pub stop_of : {A : Type 0} (P : Type 0) (result : Result A Stop) (stop : Stop) → result ≡ Err stop → IfErr result (λ _. P) → P
 stop_of P result stop is h = let Q : Result _ Stop → Type 0 = λ r. IfErr r (λ _. P) in subst Q is h
 
-answered_first : (held : Option FileMap) (stored : Option Stored) (setting : Setting) (o : Option Request) (m : Machine) → IfSome o IsProperRequest → StandsAt held stored m → StandsAmong held stored (answered setting o m).stops
+pub answered_first : (held : Option FileMap) (stored : Option Stored) (setting : Setting) (o : Option Request) (m : Machine) → IfSome o IsProperRequest → StandsAt held stored m → StandsAmong held stored (answered setting o m).stops
 answered_first held stored setting None m proper at = inl at
 answered_first held stored setting (Some request) m proper at = command_first held stored setting request m proper at
 

@@ -57,7 +57,7 @@ number_stops stops.EntropyFault goes = goes.0 refl
 number_stops stops.TpmFault goes = goes.0 refl
 number_stops stops.Memory goes = goes.1 refl
 
-status_stops : (ending : Ending) → is_stop ending ≡ true → ¬ Goes (status_of ending)
+pub status_stops : (ending : Ending) → is_stop ending ≡ true → ¬ Goes (status_of ending)
 status_stops (Fine text) e = absurd (cc e)
 status_stops (Refused answer) e = absurd (cc e)
 status_stops (Stops stop) e = number_stops stop
@@ -146,7 +146,7 @@ safe_right xs ys h = record {
 }
 
 -- the strings and the stops of the first part are among those of the whole
-split_safe : (whole a : Whole) (rest : Whole → Whole) → IsSplit whole a rest → Safe whole.hashed → Safe a.hashed
+pub split_safe : (whole a : Whole) (rest : Whole → Whole) → IsSplit whole a rest → Safe whole.hashed → Safe a.hashed
 split_safe whole a rest (inl both) safe = safe_left a.hashed (rest a).hashed (subst Safe both.hashed safe)
 split_safe whole a rest (inr cut) safe = subst (λ (x : Whole). Safe x.hashed) cut.same safe
 
@@ -155,7 +155,7 @@ split_stops held stored whole a rest (inl both) h = both.first held stored h
 split_stops held stored whole a rest (inr cut) h = subst (λ (x : Whole). StandsAmong held stored x.stops) (sym cut.same) h
 
 -- behind a part that doesn't stop the second one goes on
-split_goes : (whole a : Whole) (rest : Whole → Whole) → IsSplit whole a rest → Goes a.status → IsBoth whole a (rest a)
+pub split_goes : (whole a : Whole) (rest : Whole → Whole) → IsSplit whole a rest → Goes a.status → IsBoth whole a (rest a)
 split_goes whole a rest (inl both) goes = both
 split_goes whole a rest (inr cut) goes = absurd (cut.stopped goes)
 

@@ -12,6 +12,8 @@ pub mod Stopped
 pub mod Bound
 pub mod Exact
 pub mod Firsts
+pub mod Fronts
+pub mod Halts
 pub mod Premise
 pub mod Printed
 pub mod Opened

@@ -21,7 +21,7 @@ use Rattle.pcrlock_run.specs.Leaves.{Leaves}
 use Rattle.pcrlock_run.proofs.Said.{says_same}
 
 -- a line with a reply doesn't stop
-reply_goes : (given : Reply) → is_stop (ending_of given) ≡ false
+pub reply_goes : (given : Reply) → is_stop (ending_of given) ≡ false
 reply_goes (replies.Fine text) = refl
 reply_goes (replies.Refused answer) = refl
 

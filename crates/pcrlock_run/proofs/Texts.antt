@@ -97,7 +97,7 @@ pub script_as : (setting : Setting) (file text : List ℕ) (m : Machine) (read :
 script_as setting file text m read is be = ap (λ (r : Result (List ℕ) Answer). script_read setting r m) (sym is ∙ be)
 
 -- the whole of a line that isn't passed over
-among_one : (text : List ℕ) → is_passed_over (words_of text) ≡ false → lines_among (text ∷ []) ≡ text ∷ []
+pub among_one : (text : List ℕ) → is_passed_over (words_of text) ≡ false → lines_among (text ∷ []) ≡ text ∷ []
 among_one text e = ap (λ (v : Bool). cond (not v) (text ∷ []) []) e
 
 pub one_line : (setting : Setting) (text : List ℕ) (words : List (List ℕ)) (number : ℕ) (m : Machine) → words ≡ words_of text → is_passed_over words ≡ false

@@ -8,6 +8,8 @@ pub mod Whole
 pub mod Leaves
 pub mod Acts
 pub mod Worlds
+pub mod Fronts
+pub mod Halts
 pub mod Stages
 pub mod Under
 pub mod EachRequest

@@ -8,6 +8,8 @@ ghost use Rattle.pcrlock_run.specs.Lines.{lines_among, lines_of};
 ghost use Rattle.pcrlock_run.specs.Script.{line as line_outcome, marked, script_from, script as whole_script};
 ghost use Rattle.pcrlock_run.specs.Leaves.{Safe, Leaves};
 ghost use Rattle.pcrlock_run.specs.Setting.{setting_of};
+ghost use Rattle.pcrlock_run.specs.Fronts.{Halted, LineHalts};
+ghost use Rattle.pcrlock_run.specs.Halts.{LinesHalt};
 
 use crate::command::line;
 use crate::next::{is_passed_over, next_line};
@@ -36,6 +38,8 @@ fn marked_line<F: Files, T: Tpm, E: Entropy, O: Sink, R: Sink>(
         → IfOk result (λ status. Leaves (F.held files.new) (T.stored tpm.new) (E.draws entropy.new) (O.written out.old) (O.written out.new) (R.faults err.old) (R.written err.old) (R.faults err.new) (R.written err.new) (number_of status) (marked m (line_outcome (setting_of setting.now) words.now m))) }
     ensures stops { (m : Machine) → Tells (F.held files.old) (T.stored tpm.old) (E.draws entropy.old) m → Safe (marked m (line_outcome (setting_of setting.now) words.now m)).hashed
         → IfErr result (λ _. StandsAmong (F.held files.new) (T.stored tpm.new) (marked m (line_outcome (setting_of setting.now) words.now m)).stops) }
+    ensures halts { (m : Machine) → Tells (F.held files.old) (T.stored tpm.old) (E.draws entropy.old) m → Safe (marked m (line_outcome (setting_of setting.now) words.now m)).hashed
+        → IfErr result (λ _. Halted (LineHalts (F.held files.new) (T.stored tpm.new) (O.faults out.old) (O.faults out.new) (line_outcome (setting_of setting.now) words.now m)) (O.written out.old) (O.written out.new) (R.faults err.old) (R.written err.old) (R.faults err.new) (R.written err.new)) }
 {
     match line(alloc, setting, words, files, tpm, entropy) {
         Ok(reply) => show_marked(alloc, &reply, out, err),
@@ -60,6 +64,8 @@ fn step<F: Files, T: Tpm, E: Entropy, O: Sink, R: Sink>(
         → IfOk result (λ next. Leaves (F.held files.new) (T.stored tpm.new) (E.draws entropy.new) (O.written out.old) (O.written out.new) (R.faults err.old) (R.written err.old) (R.faults err.new) (R.written err.new) (number_of next) (script_from (setting_of setting.now) (lines_among (text.now ∷ [])) (number_of status) m)) }
     ensures stops { (m : Machine) → Tells (F.held files.old) (T.stored tpm.old) (E.draws entropy.old) m → Safe (script_from (setting_of setting.now) (lines_among (text.now ∷ [])) (number_of status) m).hashed
         → IfErr result (λ _. StandsAmong (F.held files.new) (T.stored tpm.new) (script_from (setting_of setting.now) (lines_among (text.now ∷ [])) (number_of status) m).stops) }
+    ensures halts { (m : Machine) → Tells (F.held files.old) (T.stored tpm.old) (E.draws entropy.old) m → Safe (script_from (setting_of setting.now) (lines_among (text.now ∷ [])) (number_of status) m).hashed
+        → IfErr result (λ _. Halted (LinesHalt (F.held files.new) (T.stored tpm.new) (O.faults out.old) (O.faults out.new) (setting_of setting.now) (lines_among (text.now ∷ [])) m) (O.written out.old) (O.written out.new) (R.faults err.old) (R.written err.old) (R.faults err.new) (R.written err.new)) }
 {
     let Ok(words) = split_line(alloc, text) else {
         return Err(Stop::Memory);
@@ -95,6 +101,8 @@ pub fn script<F: Files, T: Tpm, E: Entropy, O: Sink, R: Sink>(
         → IfOk result (λ status. Leaves (F.held files.new) (T.stored tpm.new) (E.draws entropy.new) (O.written out.old) (O.written out.new) (R.faults err.old) (R.written err.old) (R.faults err.new) (R.written err.new) (number_of status) (whole_script (setting_of setting.now) (lines_of text.now) m)) }
     ensures stops { (m : Machine) → Tells (F.held files.old) (T.stored tpm.old) (E.draws entropy.old) m → Safe (whole_script (setting_of setting.now) (lines_of text.now) m).hashed
         → IfErr result (λ _. StandsAmong (F.held files.new) (T.stored tpm.new) (whole_script (setting_of setting.now) (lines_of text.now) m).stops) }
+    ensures halts { (m : Machine) → Tells (F.held files.old) (T.stored tpm.old) (E.draws entropy.old) m → Safe (whole_script (setting_of setting.now) (lines_of text.now) m).hashed
+        → IfErr result (λ _. Halted (LinesHalt (F.held files.new) (T.stored tpm.new) (O.faults out.old) (O.faults out.new) (setting_of setting.now) (lines_of text.now) m) (O.written out.old) (O.written out.new) (R.faults err.old) (R.written err.old) (R.faults err.new) (R.written err.new)) }
 {
     let mut rest = text;
     let mut status = Status::Fine;

@@ -1,5 +1,5 @@
 //! The top call.
-ghost use Rattle.std.specs.Prelude.{◌≡◌, ◌≢◌, ◌⊎◌, ◌≤◌, ℕ, List as Sequence, Some, Option, None, IfOk, IfErr};
+ghost use Rattle.std.specs.Prelude.{◌≡◌, ◌≢◌, ◌⊎◌, ◌≤◌, [], ℕ, List as Sequence, Some, Option, None, IfOk, IfErr};
 ghost use Rattle.std.specs.FinMap.{get};
 ghost use Rattle.pl_base.specs.FileMap.{FileMap};
 ghost use Rattle.hash_bank.specs.declared.banks.Banks.{Banks};
@@ -15,22 +15,24 @@ ghost use Rattle.pcrlock_run.specs.Status.{number_of, stop_number as number_of_s
 ghost use Rattle.tpm_model.specs.World.{World, AreHashed};
 ghost use Rattle.pcrlock_words.specs.Requests.{request_of};
 ghost use Rattle.pcrlock_words.specs.ProperRequest.{IsProperRequest};
-ghost use Rattle.pcrlock_answer.specs.Texts.{answer_text};
 ghost use Rattle.pcrlock_line.specs.Stopped.{StandsAt, StandsAmong};
 ghost use Rattle.pcrlock_line.specs.Worlds.{IsTied};
 ghost use Rattle.pcrlock_run.specs.Script.{command_line};
-ghost use Rattle.pcrlock_run.specs.Whole.{alone, run_script as script_run, run_request as request_run, run_spelled as spelled_run, run_line};
+ghost use Rattle.pcrlock_run.specs.Whole.{alone, script_in, run_script as script_run, run_request as request_run, run_spelled as spelled_run, run_line};
 ghost use Rattle.pcrlock_run.specs.Says.{Says};
 ghost use Rattle.pcrlock_run.specs.Leaves.{Safe, Leaves, IsNoScript};
 ghost use Rattle.pcrlock_deeds.specs.Resumed.{StandsKept};
 ghost use Rattle.pcrlock_run.specs.Stages.{run_stages};
-ghost use Rattle.pcrlock_run.specs.Worlds.{run_world};
+ghost use Rattle.pcrlock_run.specs.Worlds.{lines_read, run_world};
 ghost use Rattle.pcrlock_run.specs.Unseals.{UnsealsOpen};
 ghost use Rattle.pcrlock_run.specs.Under.{IsKeptAt, IsOwnKeptAt, IsUnder};
 ghost use Rattle.pcrlock_run.specs.EachRequest.{RunHas};
 ghost use Rattle.pcrlock_run.specs.Foretelling.{CallIsForetold, MakesTheForetold, UnsealIsForetold};
 ghost use Rattle.pcrlock_run.specs.Headline.{CallIsExact, CallOpensBound, UnsealIsExact, token_spelled};
 ghost use Rattle.pcrlock_run.specs.Setting.{outside, setting_of};
+ghost use Rattle.pcrlock_run.specs.ScriptText.{script_text};
+ghost use Rattle.pcrlock_run.specs.Fronts.{CommandHalts, Halted, TellsStop};
+ghost use Rattle.pcrlock_run.specs.Halts.{HasPrinted, LinesHalt, RequestHalts, RunHalts, SpelledHalts};
 
 use crate::command::command;
 use crate::file::read_script;
@@ -62,6 +64,8 @@ fn run_alone<F: Files, T: Tpm, E: Entropy, O: Sink, R: Sink>(
         → IfOk result (λ status. Leaves (F.held files.new) (T.stored tpm.new) (E.draws entropy.new) (O.written out.old) (O.written out.new) (R.faults err.old) (R.written err.old) (R.faults err.new) (R.written err.new) (number_of status) (alone (command_line (setting_of setting.now) request.now m))) }
     ensures stops { (m : Machine) → Tells (F.held files.old) (T.stored tpm.old) (E.draws entropy.old) m → Safe (alone (command_line (setting_of setting.now) request.now m)).hashed
         → IfErr result (λ _. StandsAmong (F.held files.new) (T.stored tpm.new) (alone (command_line (setting_of setting.now) request.now m)).stops) }
+    ensures halts { (m : Machine) → Tells (F.held files.old) (T.stored tpm.old) (E.draws entropy.old) m → Safe (alone (command_line (setting_of setting.now) request.now m)).hashed
+        → IfErr result (λ _. Halted (CommandHalts (F.held files.new) (T.stored tpm.new) (O.faults out.old) (O.faults out.new) (command_line (setting_of setting.now) request.now m)) (O.written out.old) (O.written out.new) (R.faults err.old) (R.written err.old) (R.faults err.new) (R.written err.new)) }
     // After a fault of the output alone the command has done all its changes.
     ensures done { (m : Machine) → Tells (F.held files.old) (T.stored tpm.old) (E.draws entropy.old) m → Safe (alone (command_line (setting_of setting.now) request.now m)).hashed
         → IfErr result (λ stop. number_of_stop stop ≡ 5 → ¬ Rose (F.faults files.old) (F.faults files.new) → ¬ Rose (E.faults entropy.old) (E.faults entropy.new) → ¬ Rose (T.faults tpm.old) (T.faults tpm.new)
@@ -89,6 +93,8 @@ fn run_script<F: Files, T: Tpm, E: Entropy, O: Sink, R: Sink>(
         → IfOk result (λ status. Leaves (F.held files.new) (T.stored tpm.new) (E.draws entropy.new) (O.written out.old) (O.written out.new) (R.faults err.old) (R.written err.old) (R.faults err.new) (R.written err.new) (number_of status) (script_run (setting_of setting.now) file.now m)) }
     ensures stops { (m : Machine) → Tells (F.held files.old) (T.stored tpm.old) (E.draws entropy.old) m → Safe (script_run (setting_of setting.now) file.now m).hashed
         → IfErr result (λ _. StandsAmong (F.held files.new) (T.stored tpm.new) (script_run (setting_of setting.now) file.now m).stops) }
+    ensures halts { (m : Machine) → Tells (F.held files.old) (T.stored tpm.old) (E.draws entropy.old) m → Safe (script_run (setting_of setting.now) file.now m).hashed
+        → IfErr result (λ _. Halted (LinesHalt (F.held files.new) (T.stored tpm.new) (O.faults out.old) (O.faults out.new) (setting_of setting.now) (lines_read (script_text m.files file.now)) m) (O.written out.old) (O.written out.new) (R.faults err.old) (R.written err.old) (R.faults err.new) (R.written err.new)) }
 {
     match read_script(alloc, files, file) {
         Ok(Ok(text)) => script(alloc, setting, text.as_str(), files, tpm, entropy, out, err),
@@ -114,6 +120,8 @@ fn run_request<F: Files, T: Tpm, E: Entropy, O: Sink, R: Sink>(
         → IfOk result (λ status. Leaves (F.held files.new) (T.stored tpm.new) (E.draws entropy.new) (O.written out.old) (O.written out.new) (R.faults err.old) (R.written err.old) (R.faults err.new) (R.written err.new) (number_of status) (request_run (setting_of setting.now) request.now m)) }
     ensures stops { (m : Machine) → Tells (F.held files.old) (T.stored tpm.old) (E.draws entropy.old) m → Safe (request_run (setting_of setting.now) request.now m).hashed
         → IfErr result (λ _. StandsAmong (F.held files.new) (T.stored tpm.new) (request_run (setting_of setting.now) request.now m).stops) }
+    ensures halts { (m : Machine) → Tells (F.held files.old) (T.stored tpm.old) (E.draws entropy.old) m → Safe (request_run (setting_of setting.now) request.now m).hashed
+        → IfErr result (λ _. Halted (RequestHalts (F.held files.new) (T.stored tpm.new) (O.faults out.old) (O.faults out.new) (setting_of setting.now) (script_in request.now) request.now m) (O.written out.old) (O.written out.new) (R.faults err.old) (R.written err.old) (R.faults err.new) (R.written err.new)) }
     ensures done { (m : Machine) → Tells (F.held files.old) (T.stored tpm.old) (E.draws entropy.old) m → Safe (request_run (setting_of setting.now) request.now m).hashed → IsNoScript (Some request.now)
         → IfErr result (λ stop. number_of_stop stop ≡ 5 → ¬ Rose (F.faults files.old) (F.faults files.new) → ¬ Rose (E.faults entropy.old) (E.faults entropy.new) → ¬ Rose (T.faults tpm.old) (T.faults tpm.new)
         → StandsAt (F.held files.new) (T.stored tpm.new) (request_run (setting_of setting.now) request.now m).after) }
@@ -147,6 +155,8 @@ fn run_spelled<F: Files, T: Tpm, E: Entropy, O: Sink, R: Sink>(
         → IfOk result (λ status. Leaves (F.held files.new) (T.stored tpm.new) (E.draws entropy.new) (O.written out.old) (O.written out.new) (R.faults err.old) (R.written err.old) (R.faults err.new) (R.written err.new) (number_of status) (spelled_run (outside state.now) (request_of words.now None) m)) }
     ensures stops { (m : Machine) → Tells (F.held files.old) (T.stored tpm.old) (E.draws entropy.old) m → Safe (spelled_run (outside state.now) (request_of words.now None) m).hashed
         → IfErr result (λ _. StandsAmong (F.held files.new) (T.stored tpm.new) (spelled_run (outside state.now) (request_of words.now None) m).stops) }
+    ensures halts { (m : Machine) → Tells (F.held files.old) (T.stored tpm.old) (E.draws entropy.old) m → Safe (spelled_run (outside state.now) (request_of words.now None) m).hashed
+        → IfErr result (λ _. Halted (SpelledHalts (F.held files.new) (T.stored tpm.new) (O.faults out.old) (O.faults out.new) (outside state.now) (request_of words.now None) m) (O.written out.old) (O.written out.new) (R.faults err.old) (R.written err.old) (R.faults err.new) (R.written err.new)) }
     ensures done { (m : Machine) → Tells (F.held files.old) (T.stored tpm.old) (E.draws entropy.old) m → Safe (spelled_run (outside state.now) (request_of words.now None) m).hashed → IsNoScript (request_of words.now None)
         → IfErr result (λ stop. number_of_stop stop ≡ 5 → ¬ Rose (F.faults files.old) (F.faults files.new) → ¬ Rose (E.faults entropy.old) (E.faults entropy.new) → ¬ Rose (T.faults tpm.old) (T.faults tpm.new)
         → StandsAt (F.held files.new) (T.stored tpm.new) (spelled_run (outside state.now) (request_of words.now None) m).after) }
@@ -181,6 +191,8 @@ fn run_words<F: Files, T: Tpm, E: Entropy, O: Sink, R: Sink>(
         → IfOk result (λ status. Leaves (F.held files.new) (T.stored tpm.new) (E.draws entropy.new) (O.written out.old) (O.written out.new) (R.faults err.old) (R.written err.old) (R.faults err.new) (R.written err.new) (number_of status) (run_line words.now m)) }
     ensures stops { (m : Machine) → Tells (F.held files.old) (T.stored tpm.old) (E.draws entropy.old) m → Safe (run_line words.now m).hashed
         → IfErr result (λ _. StandsAmong (F.held files.new) (T.stored tpm.new) (run_line words.now m).stops) }
+    ensures halts { (m : Machine) → Tells (F.held files.old) (T.stored tpm.old) (E.draws entropy.old) m → Safe (run_line words.now m).hashed
+        → IfErr result (λ _. Halted (RunHalts (F.held files.new) (T.stored tpm.new) (O.faults out.old) (O.faults out.new) words.now m) (O.written out.old) (O.written out.new) (R.faults err.old) (R.written err.old) (R.faults err.new) (R.written err.new)) }
     ensures done { (m : Machine) → Tells (F.held files.old) (T.stored tpm.old) (E.draws entropy.old) m → Safe (run_line words.now m).hashed → IsNoScript (request_of words.now None)
         → IfErr result (λ stop. number_of_stop stop ≡ 5 → ¬ Rose (F.faults files.old) (F.faults files.new) → ¬ Rose (E.faults entropy.old) (E.faults entropy.new) → ¬ Rose (T.faults tpm.old) (T.faults tpm.new)
         → StandsAt (F.held files.new) (T.stored tpm.new) (run_line words.now m).after) }
@@ -207,7 +219,7 @@ fn answer_of(stop: Stop) -> Answer
 /// Tells a stop, and gives its status, which is that of want of memory where there is none to tell it.
 fn stopped<R: Sink>(alloc: Global, stop: Stop, err: &mut R) -> u8
     ensures status { (result ≡ number_of_stop stop) ⊎ (result ≡ 6) }
-    ensures said { result ≢ 6 → Says (R.faults err.old) (R.written err.old) (R.faults err.new) (R.written err.new) (answer_text (stop_answer stop)) }
+    ensures told { TellsStop stop result [] (R.faults err.old) (R.written err.old) (R.faults err.new) (R.written err.new) }
 {
     match tell(alloc, err, &answer_of(stop)) {
         Ok(()) => stop_number(stop),
@@ -248,6 +260,12 @@ pub fn run<F: Files, T: Tpm, E: Entropy, O: Sink, R: Sink>(
     // After a fault or want of memory files and stored state are those after some of the changes.
     ensures stops { (m : Machine) → Tells (F.held files.old) (T.stored tpm.old) (E.draws entropy.old) m → Safe (run_line words.now m).hashed → (result ≡ 5) ⊎ (result ≡ 6)
         → StandsAmong (F.held files.new) (T.stored tpm.new) (run_line words.now m).stops }
+    // Standard output has gained a front of what the whole run prints: of a script each line that was done with its mark, and
+    // of the line that stopped at most its text (where writing failed, a front of text and mark), once all changes of
+    // that line are done. No line runs behind it. Standard error has gained the answers of the lines that were done, and
+    // the line of a stop that has its cause; but for want of memory that line isn't lacking, and the status is that of the stop.
+    ensures printed { (m : Machine) → Tells (F.held files.old) (T.stored tpm.old) (E.draws entropy.old) m → Safe (run_line words.now m).hashed → (result ≡ 5) ⊎ (result ≡ 6)
+        → HasPrinted (F.held files.new) (T.stored tpm.new) (F.faults files.old, E.faults entropy.old, T.faults tpm.old, O.faults out.old) (F.faults files.new, E.faults entropy.new, T.faults tpm.new, O.faults out.new) (O.written out.old) (O.written out.new) (R.faults err.old) (R.written err.old) (R.faults err.new) (R.written err.new) words.now m result }
     // All that is kept is kept by what they are then, in the world of one of the run's stages: with it the clauses
     // here hold of the next run, whatever sessions a walk left open as it was stopped.
     ensures stopped { (m : Machine) (w : World) (path : Sequence ℕ) → Tells (F.held files.old) (T.stored tpm.old) (E.draws entropy.old) m → IsUnder words.now path → IsOwnKeptAt path m w

@@ -9,4 +9,6 @@ mod rows;
 mod serving;
 
 pub use crate::broker::Broker;
+pub use crate::plan::Plan;
+pub use crate::rows::Handles;
 pub use crate::serving::{each_is_answered_alone, serve};

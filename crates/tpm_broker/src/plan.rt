@@ -8,9 +8,9 @@ use crate::rows::{Rows, SESSIONS};
 use hash_bank::Bank;
 use tpm_model::Command;
 
-/// What is done with a client's command.
+/// What a broker does with a client's command. Definitions speak of it.
 #[derive(Clone, Copy, Debug, PartialEq, Eq)]
-pub(crate) enum Plan {
+pub enum Plan {
     /// The TPM gets it as it is.
     Pass,
     /// The TPM gets it with this handle of the session.

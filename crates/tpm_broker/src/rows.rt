@@ -9,9 +9,9 @@ use pl_base::Memory;
 use std::alloc::Global;
 use std::marker::Model;
 
-/// The two handles of a session: the client's and the TPM's.
+/// The two handles of a session: the client's and the TPM's. Definitions speak of it.
 #[derive(Clone, Copy, Debug)]
-pub(crate) struct Handles {
+pub struct Handles {
     /// As the client calls it.
     pub(crate) own: u32,
     /// As the TPM calls it.

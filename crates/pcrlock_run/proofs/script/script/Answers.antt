@@ -5,6 +5,7 @@ use Rattle.pcrlock_line.proofs.Composed.{then_ends}
 use Rattle.pcrlock_run.proofs.Widened.{then_same_stop}
 use Rattle.pcrlock_run.proofs.Firsts.{stopped_so, stop_of}
 use Rattle.pcrlock_run.proofs.Folds.{begins, continues, ends, halts}
+use Rattle.pcrlock_run.proofs.Halts.{breaks_off, keeps_on, sets_out}
 use Rattle.pcrlock_run.proofs.Parts.{nothing_left}
 use Rattle.pcrlock_run.proofs.script.script.Goals as goal
 
@@ -13,6 +14,7 @@ lines-init g c = record {
   text = search rules;
   causes = search rules;
   told = λ m tells safe. begins _ _ _ _ _ _ _ _ 0 m tells safe;
+  onward = λ m tells safe. sets_out _ _ _ _ _ _ _ _ 0 m tells safe;
 }
 
 pub returns-in_err-status-clause-causes : goal.returns-in_err-status-clause-causes
@@ -29,12 +31,22 @@ returns-in_err-status-clause-stops g c = λ m tells safe.
     (halts _ _ _ _ _ _ _ _ _ _ _ _ _ _ _ _ _ c.next_line.ensures.split (c.lines.invariant.told m tells safe)
     (λ n t free. stop_of _ c.step.result c.in_err-status.field-0.0 was (c.step.ensures.stops n t free)))
 
+pub returns-in_err-status-clause-halts : goal.returns-in_err-status-clause-halts
+returns-in_err-status-clause-halts g c = λ m tells safe.
+    let was : c.step.result ≡ Err c.in_err-status.field-0.0 = search rules in
+    let is : c.from_residual.result ≡ Err c.in_err-status.field-0.0 = search rules in
+    stopped_so _ c.from_residual.result c.in_err-status.field-0.0 is
+    (breaks_off _ _ _ _ _ _ _ _ _ _ _ _ _ _ _ _ _ _ _ _ _ _ _ _ c.next_line.ensures.split c.lines.invariant.causes.out (c.lines.invariant.onward m tells safe)
+    (λ n t free. stop_of _ c.step.result c.in_err-status.field-0.0 was (c.step.ensures.halts n t free)))
+
 pub lines-preserved : goal.lines-preserved
 lines-preserved g c = record {
   text = search rules;
   causes = then_ends _ _ _ (Ok tt) c.step.result tt c.lines.invariant.causes c.step.ensures.causes;
   told = λ m tells safe.
       continues _ _ _ _ _ _ _ _ _ _ _ _ _ _ _ _ _ _ _ _ _ _ c.next_line.ensures.split (c.lines.invariant.told m tells safe) c.in_ok-status.ensures.told;
+  onward = λ m tells safe.
+      keeps_on _ _ _ _ _ _ _ _ _ _ _ _ _ _ _ _ _ _ _ _ _ _ _ c.next_line.ensures.split (c.lines.invariant.onward m tells safe) c.in_ok-status.ensures.told;
 }
 
 pub returns-clause-told : goal.returns-clause-told

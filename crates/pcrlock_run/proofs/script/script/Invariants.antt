@@ -10,6 +10,7 @@ use Rattle.pcrlock_run.specs.Setting.{setting_of}
 use Rattle.pcrlock_run.specs.Script.{script}
 use Rattle.pcrlock_run.specs.Leaves.{Safe}
 use Rattle.pcrlock_run.proofs.Folds.{Underway}
+use Rattle.pcrlock_run.proofs.Halts.{Onward}
 use Rattle.pcrlock_run.proofs.script.script.Given as goal
 
 abbrev pub invariant-lines : goal.invariant-lines
@@ -20,6 +21,10 @@ invariant-lines g l = record {
       → Safe (script (setting_of l.fn.setting) (lines_of l.fn.text) m).hashed
       → Underway (g.F.Files.held l.files) (g.T.Tpm.stored l.tpm) (g.E.Entropy.draws l.entropy) (g.O.Sink.written l.fn.out) (g.O.Sink.written l.out) (g.R.Sink.faults l.fn.err) (g.R.Sink.written l.fn.err) (g.R.Sink.faults l.err) (g.R.Sink.written l.err)
       (setting_of l.fn.setting) (lines_of l.rest) (number_of l.status) (script (setting_of l.fn.setting) (lines_of l.fn.text) m);
+  onward : (m : Machine) → Tells (g.F.Files.held l.fn.files) (g.T.Tpm.stored l.fn.tpm) (g.E.Entropy.draws l.fn.entropy) m
+      → Safe (script (setting_of l.fn.setting) (lines_of l.fn.text) m).hashed
+      → Onward (g.F.Files.held l.files) (g.T.Tpm.stored l.tpm) (g.E.Entropy.draws l.entropy) (g.O.Sink.written l.fn.out) (g.O.Sink.written l.out) (g.R.Sink.faults l.fn.err) (g.R.Sink.written l.fn.err) (g.R.Sink.faults l.err) (g.R.Sink.written l.err)
+      (setting_of l.fn.setting) (lines_of l.rest) (number_of l.status) (lines_of l.fn.text) m;
 }
 
 abbrev pub decreases-lines : goal.decreases-lines

@@ -1,12 +1,14 @@
-use Rattle.std.proofs.Common.{◌∙◌, ap, sym}
+use Rattle.std.proofs.Common.{◌∙◌, [], ◌∷◌, ap, subst, sym}
 use Rattle.std.specs.Prelude.{IfOk, IfErr}
 use Rattle.pcrlock_line.specs.Stopped.{StandsAmong}
 use Rattle.pcrlock_run.specs.declared.status.Status.{Status}
 use Rattle.pcrlock_run.specs.Status.{number_of}
-use Rattle.pcrlock_run.specs.Lines.{is_passed_over}
+use Rattle.pcrlock_run.specs.Lines.{is_passed_over, lines_among}
 use Rattle.pcrlock_run.specs.Setting.{setting_of}
 use Rattle.pcrlock_run.specs.Script.{Whole}
-use Rattle.pcrlock_run.specs.Leaves.{Leaves}
+use Rattle.pcrlock_run.specs.Leaves.{Leaves, Safe}
+use Rattle.pcrlock_run.proofs.Fronts.{err_as}
+use Rattle.pcrlock_run.proofs.Halts.{one_halts, unread_halts}
 use Rattle.pcrlock_run.proofs.Texts.{by_equal, one_line}
 use Rattle.pcrlock_run.proofs.script.step.Goals as goal
 
@@ -25,3 +27,16 @@ returns-clause-stops g c = λ m tells.
     (one_line (setting_of c.args.setting.now) c.args.text.now c.as_slice-2.result.now (number_of c.args.status) m (c.as_slice-2.ensures ∙ c.in-Ok.ensures)
     (ap is_passed_over (c.as_slice-2.ensures ∙ sym c.as_slice.ensures) ∙ sym c.is_passed_over.ensures ∙ c.if-is_passed_over.false))
     (λ free. c.marked_line.ensures.stops m tells free)
+
+pub returns-clause-halts : goal.returns-clause-halts
+returns-clause-halts g c = λ m tells safe.
+    err_as _ _ c.marked_line.result
+    (one_halts _ _ _ _ _ _ _ _ _ _ (setting_of c.args.setting.now) c.args.text.now c.as_slice-2.result.now m (c.as_slice-2.ensures ∙ c.in-Ok.ensures)
+    (ap is_passed_over (c.as_slice-2.ensures ∙ sym c.as_slice.ensures) ∙ sym c.is_passed_over.ensures ∙ c.if-is_passed_over.false))
+    (c.marked_line.ensures.halts m tells
+    (subst (λ (w : Whole). Safe w.hashed)
+    (one_line (setting_of c.args.setting.now) c.args.text.now c.as_slice-2.result.now (number_of c.args.status) m (c.as_slice-2.ensures ∙ c.in-Ok.ensures)
+    (ap is_passed_over (c.as_slice-2.ensures ∙ sym c.as_slice.ensures) ∙ sym c.is_passed_over.ensures ∙ c.if-is_passed_over.false)) safe))
+
+pub returns-in_default-clause-halts : goal.returns-in_default-clause-halts
+returns-in_default-clause-halts g c = λ m tells safe. unread_halts _ _ _ _ _ _ _ (setting_of c.args.setting.now) (lines_among (c.args.text.now ∷ [])) m tells

@@ -10,6 +10,8 @@ use Rattle.pcrlock_run.proofs.Foretold.{run_call_foretold, run_foretold, run_mak
 use Rattle.pcrlock_run.proofs.Opened.{run_opens}
 use Rattle.pcrlock_run.proofs.Premise.{run_hashed, run_safe}
 use Rattle.pcrlock_run.proofs.Printed.{run_bound, run_call}
+use Rattle.pcrlock_run.proofs.Fronts.{tells_behind}
+use Rattle.pcrlock_run.proofs.Halts.{run_front}
 use Rattle.pcrlock_run.proofs.top.run.Goals as goal
 
 pub returns-in-Ok-clause-told : goal.returns-in-Ok-clause-told
@@ -90,3 +92,21 @@ pub returns-in-Ok-clause-comes : goal.returns-in-Ok-clause-comes
 returns-in-Ok-clause-comes g c = λ m w path t under kept safe no_fault no_want.
     let l = c.in-Ok.ensures.told m t (run_safe c.args.words.now m w safe) in
     run_call_foretold path c.args.words.now m w _ _ _ under kept safe (c.number.ensures ∙ l.status) l.out
+
+pub returns-in-Ok-clause-printed : goal.returns-in-Ok-clause-printed
+returns-in-Ok-clause-printed g c = λ m t safe stops.
+    absurd (never_stops c.in-Ok.status (subst (λ (n : ℕ). (n ≡ 5) ⊎ (n ≡ 6)) c.number.ensures stops))
+
+pub returns-in-Err-clause-printed : goal.returns-in-Err-clause-printed
+returns-in-Err-clause-printed g c = λ m t safe stops.
+    let h = c.in-Err.ensures.halts m t safe in
+    record {
+      stop = c.in-Err.stop;
+      cause = c.run_words.ensures.causes.cause c.in-Err.stop c.in-Err.is;
+      printed = h.printed;
+      spoken = h.spoken;
+      halts = h.so;
+      front = run_front _ _ _ _ c.args.words.now m h.printed h.spoken h.so;
+      out = h.out;
+      told = tells_behind c.in-Err.stop c.stopped.result h.spoken _ _ _ _ _ _ h.err c.stopped.ensures.told;
+    }

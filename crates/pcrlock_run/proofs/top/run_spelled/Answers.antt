@@ -12,6 +12,11 @@ use Rattle.pcrlock_run.specs.Whole.{run_spelled}
 use Rattle.pcrlock_run.specs.Leaves.{Safe, Leaves, IsNoScript}
 use Rattle.pcrlock_run.proofs.Firsts.{spelled_first}
 use Rattle.pcrlock_run.proofs.Texts.{by_equal, spelled_as}
+use Rattle.std.specs.Prelude.{None}
+use Rattle.pcrlock_words.specs.Requests.{request_of}
+use Rattle.pcrlock_run.proofs.Fronts.{err_as}
+use Rattle.pcrlock_run.proofs.Halts.{spelled_halts, unspelled_halts}
+use Rattle.pcrlock_run.proofs.Said.{says_nothing}
 use Rattle.pcrlock_run.proofs.top.run_spelled.Goals as goal
 
 pub returns-in-Ok-clause-done : goal.returns-in-Ok-clause-done
@@ -36,3 +41,17 @@ returns-in-Ok-clause-stops g c = λ m tells.
     (λ (w : Whole). IfErr c.run_request.result (λ _. StandsAmong (g.F.Files.held c.run_request.new.files) (g.T.Tpm.stored c.run_request.new.tpm) w.stops))
     (spelled_as (outside c.args.state.now) c.args.words.now c.in-Ok.request m c.in-Ok.ensures.spelled)
     (λ free. c.run_request.ensures.stops m tells free)
+
+pub returns-in-Ok-clause-halts : goal.returns-in-Ok-clause-halts
+returns-in-Ok-clause-halts g c = λ m tells safe.
+    err_as _ _ c.run_request.result
+    (spelled_halts _ _ _ _ _ _ _ _ _ _ (outside c.args.state.now) c.in-Ok.request (request_of c.args.words.now None) m c.in-Ok.ensures.spelled)
+    (c.run_request.ensures.halts m tells
+    (subst (λ (w : Whole). Safe w.hashed) (spelled_as (outside c.args.state.now) c.args.words.now c.in-Ok.request m c.in-Ok.ensures.spelled) safe))
+
+pub returns-in-Err-BadWords-clause-halts : goal.returns-in-Err-BadWords-clause-halts
+returns-in-Err-BadWords-clause-halts g c = λ m tells safe.
+    err_as _ _ c.refuse.result (unspelled_halts _ _ _ _ _ _ _ _ _ (outside c.args.state.now) c.args.words.now m tells) c.refuse.ensures.unsaid
+
+pub returns-in-Err-Memory-clause-halts : goal.returns-in-Err-Memory-clause-halts
+returns-in-Err-Memory-clause-halts g c = λ m tells safe. unspelled_halts _ _ _ _ _ _ _ _ _ (outside c.args.state.now) c.args.words.now m tells (says_nothing _ _)

@@ -1,0 +1,4 @@
+pub mod Input
+pub mod Broker
+pub mod Serving
+pub mod Acts
