@@ -1,5 +1,5 @@
 -- What a command that stopped has printed and said.
-use Rattle.std.proofs.Common.{◌≡◌, ◌⊎◌, ℕ, ◌≤◌, Bool, false, cond, List, [], ◌++◌, inl, inr, refl, sym, ap, ◌∙◌, subst, append_assoc, arith}
+use Rattle.std.proofs.Common.{◌≡◌, ℕ, ◌≤◌, List, [], ◌++◌, inl, inr, refl, sym, ap, ◌∙◌, subst, append_assoc, arith}
 use Rattle.std.specs.Prelude.{Option, None, Some, Result, Ok, Err, IfErr, OnOk}
 use Rattle.std.proofs.lemmas.List.{append-nil}
 use Rattle.pl_base.specs.FileMap.{FileMap}
@@ -16,8 +16,7 @@ use Rattle.pcrlock_line.specs.declared.stop.Stop.{Stop}
 use Rattle.pcrlock_line.specs.Outcome.{Ending, Outcome, Gives, ending_of, is_stop}
 use Rattle.pcrlock_line.specs.Stopped.{StandsAmong}
 use Rattle.pcrlock_line.proofs.Devices.{stands}
-use Rattle.pcrlock_run.specs.declared.status.Status.{Status}
-use Rattle.pcrlock_run.specs.Fronts.{CommandHalts, Gains, Halted, IsChanging, IsFront, IsMarking, IsPast, IsShowing, IsWriting, LineHalts, TellsStop}
+use Rattle.pcrlock_run.specs.Fronts.{CommandHalts, Gains, Halted, IsChanging, IsFront, IsPast, IsShowing, IsWriting, LineHalts, TellsStop}
 use Rattle.pcrlock_run.specs.Says.{Says}
 use Rattle.pcrlock_run.specs.Status.{status_of, out_of, err_of, stop_number, stop_answer}
 use Rattle.pcrlock_run.proofs.Marks.{reply_goes}
