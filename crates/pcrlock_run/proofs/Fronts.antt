@@ -47,9 +47,6 @@ anyway P (Ok x) p = tt
 anyway P (Err e) p = p
 
 -- what follows from what holds after a stop
-pub err_then : {A B E : Type 0} (P Q : Type 0) (first : Result A E) (second : Result B E) (stop : E) → first ≡ Err stop → (P → Q) → IfErr first (λ _. P) → IfErr second (λ _. Q)
-err_then {E = E} P Q first second stop is f h = anyway Q second (f (let R : Result _ E → Type 0 = λ r. IfErr r (λ _. P) in subst R is h))
-
 pub err_as : {A E : Type 0} (P Q : Type 0) (result : Result A E) → (P → Q) → IfErr result (λ _. P) → IfErr result (λ _. Q)
 err_as P Q (Ok x) f h = tt
 err_as P Q (Err e) f h = f h
