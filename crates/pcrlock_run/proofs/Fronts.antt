@@ -1,5 +1,5 @@
 -- What a command that stopped has printed and said.
-use Rattle.std.proofs.Common.{◌≡◌, ◌⊎◌, ℕ, ◌≤◌, Bool, false, cond, List, [], ◌++◌, inl, inr, refl, sym, ap, ◌∙◌, subst, append_assoc, arith}
+use Rattle.std.proofs.Common.{◌≡◌, ℕ, ◌≤◌, List, [], ◌++◌, inl, inr, refl, sym, ap, ◌∙◌, subst, append_assoc, arith}
 use Rattle.std.specs.Prelude.{Option, None, Some, Result, Ok, Err, IfErr, OnOk}
 use Rattle.std.proofs.lemmas.List.{append-nil}
 use Rattle.pl_base.specs.FileMap.{FileMap}
@@ -16,8 +16,7 @@ use Rattle.pcrlock_line.specs.declared.stop.Stop.{Stop}
 use Rattle.pcrlock_line.specs.Outcome.{Ending, Outcome, Gives, ending_of, is_stop}
 use Rattle.pcrlock_line.specs.Stopped.{StandsAmong}
 use Rattle.pcrlock_line.proofs.Devices.{stands}
-use Rattle.pcrlock_run.specs.declared.status.Status.{Status}
-use Rattle.pcrlock_run.specs.Fronts.{CommandHalts, Gains, Halted, IsChanging, IsFront, IsMarking, IsPast, IsShowing, IsWriting, LineHalts, TellsStop}
+use Rattle.pcrlock_run.specs.Fronts.{CommandHalts, Gains, Halted, IsChanging, IsFront, IsPast, IsShowing, IsWriting, LineHalts, TellsStop}
 use Rattle.pcrlock_run.specs.Says.{Says}
 use Rattle.pcrlock_run.specs.Status.{status_of, out_of, err_of, stop_number, stop_answer}
 use Rattle.pcrlock_run.proofs.Marks.{reply_goes}
@@ -48,9 +47,6 @@ anyway P (Ok x) p = tt
 anyway P (Err e) p = p
 
 -- what follows from what holds after a stop
-pub err_then : {A B E : Type 0} (P Q : Type 0) (first : Result A E) (second : Result B E) (stop : E) → first ≡ Err stop → (P → Q) → IfErr first (λ _. P) → IfErr second (λ _. Q)
-err_then {E = E} P Q first second stop is f h = anyway Q second (f (let R : Result _ E → Type 0 = λ r. IfErr r (λ _. P) in subst R is h))
-
 pub err_as : {A E : Type 0} (P Q : Type 0) (result : Result A E) → (P → Q) → IfErr result (λ _. P) → IfErr result (λ _. Q)
 err_as P Q (Ok x) f h = tt
 err_as P Q (Err e) f h = f h

@@ -1,5 +1,5 @@
 -- How far a run came that stopped, line by line.
-use Rattle.std.proofs.Common.{◌≡◌, ◌≢◌, ◌⊎◌, ℕ, ◌≤◌, Bool, true, false, cond, List, [], ◌∷◌, ◌++◌, inl, inr, refl, sym, ap, ◌∙◌, subst, append_assoc, arith}
+use Rattle.std.proofs.Common.{◌≡◌, ℕ, ◌≤◌, Bool, true, false, cond, List, [], ◌∷◌, ◌++◌, inl, inr, refl, sym, ap, ◌∙◌, subst, append_assoc}
 use Rattle.std.specs.Prelude.{slice_get, Option, None, Some, IfSome, Result, Ok, Err}
 use Rattle.std.proofs.lemmas.List.{append-nil}
 use Rattle.pl_base.specs.FileMap.{FileMap}
@@ -17,21 +17,21 @@ use Rattle.pcrlock_line.specs.Outcome.{Ending, Outcome, is_stop, refused_line}
 use Rattle.pcrlock_line.specs.Stopped.{StandsAt, StandsAmong}
 use Rattle.pcrlock_line.proofs.Devices.{stands}
 use Rattle.pcrlock_run.specs.declared.status.Status.{Status}
-use Rattle.pcrlock_run.specs.Fronts.{CommandHalts, Halted, IsChanging, IsFront, IsMarking, IsPast, IsShowing, IsWriting, LineHalts}
-use Rattle.pcrlock_run.specs.Halts.{IsBehind, IsResting, LinesHalt, RequestHalts, RunHalts, SpelledHalts}
+use Rattle.pcrlock_run.specs.Fronts.{CommandHalts, Halted, IsFront, IsShowing, IsWriting, LineHalts}
+use Rattle.pcrlock_run.specs.Halts.{IsBehind, LinesHalt, RequestHalts, RunHalts, SpelledHalts}
 use Rattle.pcrlock_run.specs.Leaves.{Leaves, Safe}
 use Rattle.pcrlock_run.specs.Lines.{is_passed_over, lines_among, lines_of}
 use Rattle.pcrlock_run.specs.Says.{Says}
 use Rattle.pcrlock_run.specs.ScriptText.{script_text}
 use Rattle.pcrlock_run.specs.Setting.{Setting, outside}
-use Rattle.pcrlock_run.specs.Script.{Whole, at_rest, command_line, line, line_before, marked_before, script, script_from, stopped_at}
+use Rattle.pcrlock_run.specs.Script.{Whole, command_line, line, line_before, marked_before, script, script_from, stopped_at}
 use Rattle.pcrlock_run.specs.Status.{status_of, out_of, err_of, number_of}
-use Rattle.pcrlock_run.specs.Whole.{Scripted, alone, run_as, run_line, run_script, run_spelled, script_in, script_read, script_setting}
+use Rattle.pcrlock_run.specs.Whole.{Scripted, run_as, run_line, run_spelled, script_in, script_read, script_setting}
 use Rattle.pcrlock_run.specs.Worlds.{lines_read}
 use Rattle.pcrlock_run.proofs.Acts.{command_first}
 use Rattle.pcrlock_run.proofs.Firsts.{answered_first}
 use Rattle.pcrlock_run.proofs.Folds.{Goes, IsBoth, IsSplit, number_goes, safe_right, script_split, split_goes, split_safe, status_stops}
-use Rattle.pcrlock_run.proofs.Fronts.{front_behind, front_empty, front_left, front_none, halted_as, halted_silent, refusal_halts, still}
+use Rattle.pcrlock_run.proofs.Fronts.{front_behind, front_empty, front_left, halted_as, halted_silent, refusal_halts, still}
 use Rattle.pcrlock_run.proofs.Said.{says_nothing, says_then}
 use Rattle.pcrlock_run.proofs.Texts.{among_one}
 

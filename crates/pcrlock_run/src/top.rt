@@ -260,10 +260,10 @@ pub fn run<F: Files, T: Tpm, E: Entropy, O: Sink, R: Sink>(
     // After a fault or want of memory files and stored state are those after some of the changes.
     ensures stops { (m : Machine) → Tells (F.held files.old) (T.stored tpm.old) (E.draws entropy.old) m → Safe (run_line words.now m).hashed → (result ≡ 5) ⊎ (result ≡ 6)
         → StandsAmong (F.held files.new) (T.stored tpm.new) (run_line words.now m).stops }
-    // Standard output has gained a front of what the whole run prints: of a script each line that was done with its mark, and
-    // of the line that stopped at most its text (where writing failed, a front of text and mark), once all changes of
-    // that line are done. No line runs behind it. Standard error has gained the answers of the lines that were done, and
-    // the line of a stop that has its cause; but for want of memory that line isn't lacking, and the status is that of the stop.
+    // A stopped run has printed a front of what the whole run prints: of a script each line that was done, with its mark, and
+    // of the line that stopped at most its text, once all changes of that line are done (where writing failed, a front of
+    // text and mark). No line runs behind it. On `err` stand the answers of the lines that were done, and one line, which
+    // tells a stop that has its cause, by whose status the run ends; where memory is short for it the status is 6.
     ensures printed { (m : Machine) → Tells (F.held files.old) (T.stored tpm.old) (E.draws entropy.old) m → Safe (run_line words.now m).hashed → (result ≡ 5) ⊎ (result ≡ 6)
         → HasPrinted (F.held files.new) (T.stored tpm.new) (F.faults files.old, E.faults entropy.old, T.faults tpm.old, O.faults out.old) (F.faults files.new, E.faults entropy.new, T.faults tpm.new, O.faults out.new) (O.written out.old) (O.written out.new) (R.faults err.old) (R.written err.old) (R.faults err.new) (R.written err.new) words.now m result }
     // All that is kept is kept by what they are then, in the world of one of the run's stages: with it the clauses

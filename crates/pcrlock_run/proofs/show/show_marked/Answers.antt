@@ -1,5 +1,4 @@
 use Rattle.pcrlock_line.proofs.Composed.{then_stops}
-use Rattle.pcrlock_run.specs.Fronts.{IsShowing, IsWriting}
 use Rattle.pcrlock_line.specs.Outcome.{ending_of}
 use Rattle.std.proofs.Common.{inl}
 use Rattle.pcrlock_run.proofs.Fronts.{halted_as, mark_halts}

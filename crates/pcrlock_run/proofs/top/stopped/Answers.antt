@@ -1,4 +1,4 @@
-use Rattle.std.proofs.Common.{◌≡◌, inl, inr, refl}
+use Rattle.std.proofs.Common.{inr, refl}
 use Rattle.pcrlock_run.proofs.Fronts.{told_so}
 use Rattle.pcrlock_run.proofs.top.stopped.Goals as goal
 
