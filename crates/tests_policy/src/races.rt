@@ -14,8 +14,7 @@ use or_tree::build;
 use pl_base::{List, Small};
 use policy_digest::Table;
 use policy_walk::Why;
-use race_core::{Event, Outcome, Race, outcome_line};
-use race_newest::play_rightly;
+use race_core::{Event, Outcome, Race, outcome_line, play};
 use std::alloc::Global;
 use std::test::Fail;
 use tpm_device::{SoftTpm, Tpm};
@@ -127,7 +126,7 @@ fn played(alloc: Global, clients: u32, letters: &[u8]) -> Result<Vec<u8>, Fail> 
     if !are_events(alloc, clients, &events) {
         return Err("no events")?;
     }
-    if play_rightly(alloc, &mut race, &events, &mut tpm).is_err() {
+    if play(alloc, &mut race, &events, &mut tpm).is_err() {
         return Err("not played")?;
     }
     lines(alloc, &race, clients)
